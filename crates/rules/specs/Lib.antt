@@ -1,0 +1,10 @@
+pub mod Bytes
+pub mod Crc
+pub mod Descriptors
+pub mod Layout
+pub mod Tables
+pub mod Section
+pub mod Holding
+pub mod Search
+pub mod Tuning
+pub mod Lineup

@@ -1,0 +1,134 @@
+-- Document 01, "The C side and the printed line-up": what the program `lineup` prints, byte for byte, of the bytes that it
+-- reads.
+use Prim.Native.Nat.{ℕ, zero, suc, _+_, _/_, _%_}
+use Prim.Native.Char.{code}
+use Prim.Native.String.{String, [] as []ₜ, _∷_ as _∷ₜ_}
+use mathlib.Core.Bool.{cond}
+use mathlib.Core.List.{List, [], _∷_, _++_}
+use lib.ListN.{length, take, replicate}
+use lib.Dec.{ltb, eqb}
+use Rattle.rules.specs.Bytes.{word, from}
+use Rattle.rules.specs.Section.{lengthOf}
+use Rattle.rules.specs.Holding.{limitOf, storeSize, fresh, Box, run, answers}
+use Rattle.rules.specs.Tuning.{tune}
+use Rattle.rules.specs.declared.LiveVersion.{LiveVersion}
+use Rattle.rules.specs.declared.Answer.{Answer}
+use Rattle.rules.specs.declared.Answer.the-variants as Answer
+use Rattle.rules.specs.declared.Tuned.{Tuned}
+use Rattle.rules.specs.declared.Tuned.the-variants as Tuned
+
+-- ---- text and decimal numbers, as bytes
+
+unfoldable pub text : String → List ℕ
+text []ₜ = []
+text (c ∷ₜ s) = code c ∷ text s
+
+-- n in decimal, in at most `most` + 1 digits and with no zero in front
+unfoldable pub digits : (most n : ℕ) → List ℕ
+digits zero n = (48 + n % 10) ∷ []
+digits (suc most) n = cond (ltb n 10) ((48 + n) ∷ []) (digits most (n / 10) ++ ((48 + n % 10) ∷ []))
+
+unfoldable pub decimal : ℕ → List ℕ
+decimal n = digits n n
+
+-- a key with its number, and a line of a key and its value
+unfoldable pub field : String → ℕ → List ℕ
+field key n = text key ++ decimal n
+
+unfoldable pub line : String → List ℕ → List ℕ
+line key value = text key ++ value ++ text "\n"
+
+-- ---- the input: "two bytes of map number, then sections back to back, each taking 3 + L bytes whatever L says; an
+-- unfinished last one is offered as it is"
+
+-- at most so many sections
+unfoldable pub cut : (most : ℕ) → List ℕ → List (List ℕ)
+cut zero bs = []
+cut (suc most) bs =
+    cond (eqb (length bs) 0) [] (take (3 + lengthOf bs) bs ∷ cut most (from bs (3 + lengthOf bs)))
+
+-- there are never more sections than bytes
+unfoldable pub sectionsOf : List ℕ → List (List ℕ)
+sectionsOf bs = cut (length bs) bs
+
+-- a fresh box, with a store of zero bytes
+unfoldable pub freshBox : (map : ℕ) → Box
+freshBox map = record { state = fresh map; store = replicate (storeSize (limitOf (fresh map))) 0 }
+
+-- ---- the lines
+
+-- how many were refused by a number
+unfoldable pub refusals : List Answer → ℕ
+refusals [] = 0
+refusals (Answer.Refused n ∷ more) = 1 + refusals more
+refusals (Answer.OtherMap ∷ more) = refusals more
+refusals (Answer.Repeat ∷ more) = refusals more
+refusals (Answer.Stored missing ∷ more) = refusals more
+refusals (Answer.Live v ∷ more) = refusals more
+
+-- live version or none
+unfoldable pub version : LiveVersion → List ℕ
+version l = cond (eqb (l .present) 1) (decimal (l .version)) (text "none")
+
+-- the line of a channel that tunes or is an application; no line where it is refused
+unfoldable pub channelLine : (number : ℕ) → Tuned → List (List ℕ)
+channelLine number (Tuned.Refused n) = []
+channelLine number (Tuned.Digital hidden path khz program mode) =
+    (field "channel=" number
+    ++ field " kind=digital hidden=" hidden
+    ++ field " path=" path
+    ++ field " khz=" khz
+    ++ field " program=" program
+    ++ field " system=" (mode .system)
+    ++ field " inner=" (mode .inner)
+    ++ field " split=" (mode .split)
+    ++ field " format=" (mode .format)
+    ++ field " symbols=" (mode .symbols)
+    ++ text "\n") ∷ []
+channelLine number (Tuned.Analogue hidden path khz standard scrambled) =
+    (field "channel=" number
+    ++ field " kind=analogue hidden=" hidden
+    ++ field " path=" path
+    ++ field " khz=" khz
+    ++ field " standard=" standard
+    ++ field " scrambled=" scrambled
+    ++ text "\n") ∷ []
+channelLine number (Tuned.Application hidden path application) =
+    (field "channel=" number
+    ++ field " kind=application hidden=" hidden
+    ++ field " path=" path
+    ++ field " application=" application
+    ++ text "\n") ∷ []
+
+-- the lines of n channels from a number on, ascending
+unfoldable pub channelLines : (ℕ → Tuned) → (n number : ℕ) → List (List ℕ)
+channelLines tuned zero number = []
+channelLines tuned (suc n) number = channelLine number (tuned number) ++ channelLines tuned n (number + 1)
+
+unfoldable pub joined : List (List ℕ) → List ℕ
+joined [] = []
+joined (l ∷ ls) = l ++ joined ls
+
+-- of the box at the end, the number of sections offered and the number of refusals
+unfoldable pub printed : Box → (sections refused : ℕ) → List ℕ
+printed b sections refused =
+    let lines = channelLines (tune (b .state) (b .store)) 4096 0 in
+    text "lineup=1\n"
+    ++ line "map=" (decimal (b .state .map))
+    ++ line "sections=" (decimal sections)
+    ++ line "refused=" (decimal refused)
+    ++ line "cds=" (version (b .state .cds .live))
+    ++ line "mms=" (version (b .state .mms .live))
+    ++ line "vcm=" (version (b .state .vcm .live))
+    ++ line "dcm=" (version (b .state .dcm .live))
+    ++ line "channels=" (decimal (length lines))
+    ++ joined lines
+
+unfoldable pub printedOf : Box → (sections : List (List ℕ)) → List ℕ
+printedOf b sections = printed (run b sections) (length sections) (refusals (answers b sections))
+
+-- "Fewer than two bytes print only `lineup=refused`."
+unfoldable pub lineup : (input : List ℕ) → List ℕ
+lineup input =
+    cond (ltb (length input) 2) (text "lineup=refused\n")
+    (printedOf (freshBox (word 0 input)) (sectionsOf (from input 2)))

@@ -1,0 +1,199 @@
+-- Document 01, "Bytes of a section": the records of the four tables and the heads of VCM and DCM, each as the paper lays
+-- it out; and of "Numbers of refusal" the clauses of 10.
+use Prim.Native.Nat.{ℕ, _+_, _*_, _/_, _%_}
+use mathlib.Core.Bool.{Bool, true, false, cond, _&&_, _||_}
+use mathlib.Core.List.{List, [], _∷_}
+use lib.Dec.{leb, ltb, eqb}
+use Rattle.rules.specs.Bytes.{byte, word}
+use Rattle.rules.specs.Layout.{Layout}
+use Rattle.rules.specs.declared.Measure.{Measure}
+use Rattle.rules.specs.declared.Carriers.{Carriers}
+use Rattle.rules.specs.declared.Mode.{Mode}
+use Rattle.rules.specs.declared.VcmHead.{VcmHead}
+use Rattle.rules.specs.declared.Channel.{Channel}
+use Rattle.rules.specs.declared.Signal.{Signal}
+use Rattle.rules.specs.declared.Signal.the-variants.{Digital, Analogue}
+use Rattle.rules.specs.declared.DcmHead.{DcmHead}
+use Rattle.rules.specs.declared.Range.{Range}
+
+-- ---- CDS record, 5 bytes: carriers; spacing unit (1 bit), zero (1), spacing (14); frequency unit (1), first frequency (15)
+
+unfoldable pub carriersZeros : List ℕ → Bool
+carriersZeros r = eqb (byte 1 r / 64 % 2) 0
+
+unfoldable pub carriers : List ℕ → Carriers
+carriers r =
+    record {
+      count = byte 0 r;
+      spacing = record { unit = byte 1 r / 128; number = byte 1 r % 64 * 256 + byte 2 r };
+      first = record { unit = byte 3 r / 128; number = byte 3 r % 128 * 256 + byte 4 r };
+    }
+
+-- "A unit bit of 0 is 10 kHz, 1 is 125 kHz."
+unfoldable pub inKhz : Measure → ℕ
+inKhz m = cond (eqb (m .unit) 0) (m .number * 10) (m .number * 125)
+
+-- "Carrier k, from 0, is at first + k x spacing, each in its own unit."
+unfoldable pub carrierKhz : Carriers → ℕ → ℕ
+carrierKhz c k = inKhz (c .first) + k * inKhz (c .spacing)
+
+-- 10: carriers 0; an index above 255. "Each carrier takes one index"
+unfoldable pub carriersFair : ℕ → Carriers → Bool
+carriersFair index c = ltb 0 (c .count) && leb (index + c .count) 256
+
+unfoldable pub cds : Layout Carriers
+cds =
+    record {
+      size = 5;
+      zeros = carriersZeros;
+      look = carriers;
+      fair = carriersFair;
+      takes = λ c. c .count;
+      described = true;
+    }
+
+-- ---- MMS record, 6 bytes: system (4), inner coding (4); split (1), zero (2), format (5); zero (4), symbol rate (28)
+
+unfoldable pub modeZeros : List ℕ → Bool
+modeZeros r = eqb (byte 1 r / 32 % 4) 0 && eqb (byte 2 r / 16) 0
+
+unfoldable pub mode : List ℕ → Mode
+mode r =
+    record {
+      system = byte 0 r / 16;
+      inner = byte 0 r % 16;
+      split = byte 1 r / 128;
+      format = byte 1 r % 32;
+      symbols = byte 2 r % 16 * 16777216 + byte 3 r * 65536 + byte 4 r * 256 + byte 5 r;
+    }
+
+unfoldable pub among : ℕ → List ℕ → Bool
+among x [] = false
+among x (y ∷ ys) = eqb x y || among x ys
+
+-- assigned in Tables 5.7, 5.8 and 5.9 of document 003; a value marked reserved there is refused
+unfoldable pub assigned : Mode → Bool
+assigned m =
+    among (m .system) (0 ∷ 2 ∷ 3 ∷ 4 ∷ [])
+    && among (m .inner) (0 ∷ 1 ∷ 3 ∷ 5 ∷ 7 ∷ 8 ∷ 9 ∷ 11 ∷ 15 ∷ [])
+    && leb (m .format) 24
+
+-- 10: unassigned mode value; an index above 255. "One index each"
+unfoldable pub modeFair : ℕ → Mode → Bool
+modeFair index m = assigned m && leb index 255
+
+unfoldable pub mms : Layout Mode
+mms = record { size = 6; zeros = modeZeros; look = mode; fair = modeFair; takes = λ m. 1; described = true }
+
+-- ---- VCM: zero (2), descriptors-included (1), zero (5); splice (1), zero (7); activation time (32); record count (8)
+
+unfoldable pub vcmHeadZeros : List ℕ → Bool
+vcmHeadZeros r = eqb (byte 0 r / 64) 0 && eqb (byte 0 r % 32) 0 && eqb (byte 1 r % 128) 0
+
+unfoldable pub vcmHeadAt : List ℕ → VcmHead
+vcmHeadAt r =
+    record {
+      included = byte 0 r / 32 % 2;
+      splice = byte 1 r / 128;
+      time = byte 2 r * 16777216 + byte 3 r * 65536 + byte 4 r * 256 + byte 5 r;
+      count = byte 6 r;
+    }
+
+unfoldable pub vcmHead : Layout VcmHead
+vcmHead =
+    record {
+      size = 7;
+      zeros = vcmHeadZeros;
+      look = vcmHeadAt;
+      fair = λ index h. true;
+      takes = λ h. 0;
+      described = false;
+    }
+
+-- ---- Channel record, 9 bytes: zero (4), number (12); application (1), zero (1), path (1), transport (1), type (4); source or
+-- application number (16); carrier reference (8); then for transport 0 programme (16) and mode reference (8), for
+-- transport 1 scrambled (1), zero (3), video standard (4) and 16 zero bits
+
+unfoldable pub transport : List ℕ → ℕ
+transport r = byte 2 r / 16 % 2
+
+unfoldable pub channelZeros : List ℕ → Bool
+channelZeros r =
+    eqb (byte 0 r / 16) 0
+    && eqb (byte 2 r / 64 % 2) 0
+    && cond (eqb (transport r) 0) true (eqb (byte 6 r / 16 % 8) 0 && eqb (byte 7 r) 0 && eqb (byte 8 r) 0)
+
+unfoldable pub signal : List ℕ → Signal
+signal r = cond (eqb (transport r) 0) (Digital (word 6 r) (byte 8 r)) (Analogue (byte 6 r / 128) (byte 6 r % 16))
+
+unfoldable pub channel : List ℕ → Channel
+channel r =
+    record {
+      number = byte 0 r % 16 * 256 + byte 1 r;
+      application = byte 2 r / 128;
+      path = byte 2 r / 32 % 2;
+      kind = byte 2 r % 16;
+      source = word 3 r;
+      carrier = byte 5 r;
+      signal = signal r;
+    }
+
+unfoldable pub standardFair : Signal → Bool
+standardFair (Digital program mode) = true
+standardFair (Analogue scrambled standard) = leb standard 4
+
+-- 10: channel type above 1; video standard above 4
+unfoldable pub channelFair : ℕ → Channel → Bool
+channelFair index c = leb (c .kind) 1 && standardFair (c .signal)
+
+-- a channel record carries its number itself and takes no index; descriptors follow if descriptors-included is 1
+unfoldable pub vcm : VcmHead → Layout Channel
+vcm h =
+    record {
+      size = 9;
+      zeros = channelZeros;
+      look = channel;
+      fair = channelFair;
+      takes = λ c. 0;
+      described = eqb (h .included) 1;
+    }
+
+-- ---- DCM: zero (4), first channel (12); zero (1), data length (7)
+
+unfoldable pub dcmHeadZeros : List ℕ → Bool
+dcmHeadZeros r = eqb (byte 0 r / 16) 0 && eqb (byte 2 r / 128) 0
+
+unfoldable pub dcmHeadAt : List ℕ → DcmHead
+dcmHeadAt r = record { first = byte 0 r % 16 * 256 + byte 1 r; length = byte 2 r % 128 }
+
+unfoldable pub dcmHead : Layout DcmHead
+dcmHead =
+    record {
+      size = 3;
+      zeros = dcmHeadZeros;
+      look = dcmHeadAt;
+      fair = λ index h. true;
+      takes = λ h. 0;
+      described = false;
+    }
+
+-- ---- a range byte: range-defined (1), channel count (7)
+
+unfoldable pub range : List ℕ → Range
+range r = record { defined = byte 0 r / 128; count = byte 0 r % 128 }
+
+-- 10: channel count 0; a DCM range past 4095
+unfoldable pub rangeFair : ℕ → Range → Bool
+rangeFair first r = ltb 0 (r .count) && leb (first + r .count) 4096
+
+-- each range takes the channels behind those of the range before it
+unfoldable pub dcm : Layout Range
+dcm =
+    record {
+      size = 1;
+      zeros = λ r. true;
+      look = range;
+      fair = rangeFair;
+      takes = λ r. r .count;
+      described = false;
+    }

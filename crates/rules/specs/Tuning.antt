@@ -1,0 +1,188 @@
+-- Document 01, "From number to tuner", and of "Numbers of refusal" 14 to 21: what a channel number is tuned to.
+use Prim.Native.Nat.{ℕ, zero, suc, _+_, _-_}
+use mathlib.Core.Bool.{Bool, true, false, cond, not, _&&_}
+use mathlib.Core.List.{List, []}
+use mathlib.Core.Option.{Option, none, some}
+use lib.ListN.{length}
+use lib.Dec.{leb, ltb, eqb}
+use Rattle.rules.specs.Layout.{Numbered}
+use Rattle.rules.specs.Tables.{carrierKhz}
+use Rattle.rules.specs.Section.{Body, carriers, modes, channels, ranges, Reading, wrong, right, readSection}
+use Rattle.rules.specs.Holding.{limitOf, indexOf, placeOf, storeSize, sectionAt, heldOf, wellFormed, otherMap}
+use Rattle.rules.specs.Search.{first, sections}
+use Rattle.rules.specs.declared.Table.{Table}
+use Rattle.rules.specs.declared.Table.the-variants.{Cds, Mms, Vcm, Dcm}
+use Rattle.rules.specs.declared.Carriers.{Carriers}
+use Rattle.rules.specs.declared.Mode.{Mode}
+use Rattle.rules.specs.declared.Channel.{Channel}
+use Rattle.rules.specs.declared.Signal.{Signal}
+use Rattle.rules.specs.declared.Signal.the-variants as Signal
+use Rattle.rules.specs.declared.Range.{Range}
+use Rattle.rules.specs.declared.State.{State}
+use Rattle.rules.specs.declared.Tuned.{Tuned}
+use Rattle.rules.specs.declared.Tuned.the-variants as Tuned
+
+-- ---- 15 and 16: the live places
+
+-- 15: one of the four tables isn't live
+unfoldable pub live : State → Table → Bool
+live s t = eqb (heldOf s t .live .present) 1
+
+unfoldable pub allLive : State → Bool
+allLive s = live s Cds && live s Mms && live s Vcm && live s Dcm
+
+-- what the place of section n of a live table reads as
+unfoldable pub reading : State → List ℕ → Table → (n : ℕ) → Reading
+reading s store t n = readSection (sectionAt store (placeOf (limitOf s) t (heldOf s t .half) n))
+
+-- 16: it reads right as that table, map, version, number and last
+unfoldable pub readsAs : State → Table → (n : ℕ) → Reading → Bool
+readsAs s t n (wrong k) = false
+readsAs s t n (right c) =
+    eqb (indexOf (c .table)) (indexOf t)
+    && not (otherMap s c)
+    && eqb (c .revision .version) (heldOf s t .live .version)
+    && eqb (c .revision .number) n
+    && eqb (c .revision .last) (heldOf s t .live .last)
+
+-- the test holds for 0 to n - 1
+unfoldable pub every : (n : ℕ) → (ℕ → Bool) → Bool
+every zero test = true
+every (suc n) test = every n test && test n
+
+-- sections 0 to last of a live table
+unfoldable pub count : State → Table → ℕ
+count s t = heldOf s t .live .last + 1
+
+unfoldable pub tableReads : State → List ℕ → Table → Bool
+tableReads s store t = every (count s t) (λ n. readsAs s t n (reading s store t n))
+
+unfoldable pub allRead : State → List ℕ → Bool
+allRead s store =
+    tableReads s store Cds && tableReads s store Mms && tableReads s store Vcm && tableReads s store Dcm
+
+-- ---- the live records of the four tables
+
+unfoldable pub carriersIn : Body → List (Numbered Carriers)
+carriersIn (carriers index rs) = rs
+carriersIn (modes index rs) = []
+carriersIn (channels h rs) = []
+carriersIn (ranges h rs) = []
+
+unfoldable pub modesIn : Body → List (Numbered Mode)
+modesIn (carriers index rs) = []
+modesIn (modes index rs) = rs
+modesIn (channels h rs) = []
+modesIn (ranges h rs) = []
+
+unfoldable pub channelsIn : Body → List (Numbered Channel)
+channelsIn (carriers index rs) = []
+channelsIn (modes index rs) = []
+channelsIn (channels h rs) = rs
+channelsIn (ranges h rs) = []
+
+unfoldable pub rangesIn : Body → List (Numbered Range)
+rangesIn (carriers index rs) = []
+rangesIn (modes index rs) = []
+rangesIn (channels h rs) = []
+rangesIn (ranges h rs) = rs
+
+unfoldable pub recordsIn : {R : Type 0} → (Body → List R) → Reading → List R
+recordsIn records (wrong n) = []
+recordsIn records (right c) = records (c .body)
+
+-- the live records of a table, lowest section first
+unfoldable pub liveRecords : {R : Type 0} → (Body → List R) → State → List ℕ → Table → List R
+liveRecords records s store t = sections (λ n. recordsIn records (reading s store t n)) (count s t) 0
+
+pub record Plant : Type 0 where
+  pub carriers : List (Numbered Carriers)
+  pub modes : List (Numbered Mode)
+  pub channels : List (Numbered Channel)
+  pub ranges : List (Numbered Range)
+
+unfoldable pub plant : State → List ℕ → Plant
+plant s store =
+    record {
+      carriers = liveRecords carriersIn s store Cds;
+      modes = liveRecords modesIn s store Mms;
+      channels = liveRecords channelsIn s store Vcm;
+      ranges = liveRecords rangesIn s store Dcm;
+    }
+
+-- ---- the four tests of the searches
+
+-- x is one of the n numbers from `from` on
+unfoldable pub covers : (from n x : ℕ) → Bool
+covers from n x = leb from x && ltb x (from + n)
+
+unfoldable pub isCarrier : (index : ℕ) → Numbered Carriers → Bool
+isCarrier index e = covers (e .index) (e .what .count) index
+
+unfoldable pub isMode : (index : ℕ) → Numbered Mode → Bool
+isMode index e = eqb (e .index) index
+
+unfoldable pub isChannel : (number : ℕ) → Numbered Channel → Bool
+isChannel number e = eqb (e .what .number) number
+
+unfoldable pub isRange : (number : ℕ) → Numbered Range → Bool
+isRange number e = covers (e .index) (e .what .count) number
+
+-- ---- 17 to 21, in their order
+
+-- where the test fails, the refusal
+unfoldable pub needs : Bool → (n : ℕ) → Tuned → Tuned
+needs true n t = t
+needs false n t = Tuned.Refused n
+
+-- where nothing was found, the refusal
+unfoldable pub found : {R : Type 0} → Option R → (n : ℕ) → (R → Tuned) → Tuned
+found none n f = Tuned.Refused n
+found (some r) n f = f r
+
+-- type 1
+unfoldable pub hidden : Channel → ℕ
+hidden c = cond (eqb (c .kind) 1) 1 0
+
+-- 21: digital, and mode reference 0 or without a record
+unfoldable pub tuneSignal : Plant → Channel → (khz : ℕ) → Signal → Tuned
+tuneSignal p c khz (Signal.Analogue scrambled standard) = Tuned.Analogue (hidden c) (c .path) khz standard scrambled
+tuneSignal p c khz (Signal.Digital program mode) =
+    needs (ltb 0 mode) 21
+    (found (first (isMode mode) (p .modes)) 21 (λ m.
+    Tuned.Digital (hidden c) (c .path) khz program (m .what)))
+
+-- 20: frequency below 54,000 or above 1,002,000 kHz
+unfoldable pub tuneKhz : Plant → Channel → (khz : ℕ) → Tuned
+tuneKhz p c khz = needs (leb 54000 khz && leb khz 1002000) 20 (tuneSignal p c khz (c .signal))
+
+-- 19: carrier reference 0 or without a carrier
+unfoldable pub tuneCarrier : Plant → Channel → Tuned
+tuneCarrier p c =
+    needs (ltb 0 (c .carrier)) 19
+    (found (first (isCarrier (c .carrier)) (p .carriers)) 19 (λ e.
+    tuneKhz p c (carrierKhz (e .what) (c .carrier - e .index))))
+
+-- "An application channel answers its application number, path and hidden flag and needs no carrier."
+unfoldable pub tuneChannel : Plant → Channel → Tuned
+tuneChannel p c =
+    cond (eqb (c .application) 1) (Tuned.Application (hidden c) (c .path) (c .source)) (tuneCarrier p c)
+
+-- 17: "A channel is defined when its first covering DCM range has range-defined 1."; 18: defined, but no channel record
+unfoldable pub lookUp : Plant → (number : ℕ) → Tuned
+lookUp p number =
+    found (first (isRange number) (p .ranges)) 17 (λ r.
+    needs (eqb (r .what .defined) 1) 17
+    (found (first (isChannel number) (p .channels)) 18 (λ c.
+    tuneChannel p (c .what))))
+
+-- ---- "For tuning: 1, 2, 14, 15, 16, then 17 to 21."
+
+unfoldable pub tune : State → List ℕ → (number : ℕ) → Tuned
+tune s store number =
+    needs (leb (storeSize (limitOf s)) (length store)) 1
+    (needs (wellFormed s) 2
+    (needs (leb number 4095) 14
+    (needs (allLive s) 15
+    (needs (allRead s store) 16
+    (lookUp (plant s store) number)))))
