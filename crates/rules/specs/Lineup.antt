@@ -23,13 +23,14 @@ unfoldable pub text : String → List ℕ
 text []ₜ = []
 text (c ∷ₜ s) = code c ∷ text s
 
--- n in decimal, in at most `most` + 1 digits and with no zero in front
+-- n in decimal with no zero in front, in at most `most` + 1 digits
 unfoldable pub digits : (most n : ℕ) → List ℕ
 digits zero n = (48 + n % 10) ∷ []
 digits (suc most) n = cond (ltb n 10) ((48 + n) ∷ []) (digits most (n / 10) ++ ((48 + n % 10) ∷ []))
 
+-- every number of 64 bits has at most 20
 unfoldable pub decimal : ℕ → List ℕ
-decimal n = digits n n
+decimal n = digits 19 n
 
 -- a key with its number, and a line of a key and its value
 unfoldable pub field : String → ℕ → List ℕ

@@ -21,8 +21,8 @@ use Rattle.rules.specs.declared.Range.{Range}
 unfoldable pub carriersZeros : List ℕ → Bool
 carriersZeros r = eqb (byte 1 r / 64 % 2) 0
 
-unfoldable pub carriers : List ℕ → Carriers
-carriers r =
+unfoldable pub carriersOf : List ℕ → Carriers
+carriersOf r =
     record {
       count = byte 0 r;
       spacing = record { unit = byte 1 r / 128; number = byte 1 r % 64 * 256 + byte 2 r };
@@ -46,7 +46,7 @@ cds =
     record {
       size = 5;
       zeros = carriersZeros;
-      look = carriers;
+      look = carriersOf;
       fair = carriersFair;
       takes = λ c. c .count;
       described = true;
@@ -57,8 +57,8 @@ cds =
 unfoldable pub modeZeros : List ℕ → Bool
 modeZeros r = eqb (byte 1 r / 32 % 4) 0 && eqb (byte 2 r / 16) 0
 
-unfoldable pub mode : List ℕ → Mode
-mode r =
+unfoldable pub modeOf : List ℕ → Mode
+modeOf r =
     record {
       system = byte 0 r / 16;
       inner = byte 0 r % 16;
@@ -83,15 +83,15 @@ unfoldable pub modeFair : ℕ → Mode → Bool
 modeFair index m = assigned m && leb index 255
 
 unfoldable pub mms : Layout Mode
-mms = record { size = 6; zeros = modeZeros; look = mode; fair = modeFair; takes = λ m. 1; described = true }
+mms = record { size = 6; zeros = modeZeros; look = modeOf; fair = modeFair; takes = λ m. 1; described = true }
 
 -- ---- VCM: zero (2), descriptors-included (1), zero (5); splice (1), zero (7); activation time (32); record count (8)
 
 unfoldable pub vcmHeadZeros : List ℕ → Bool
 vcmHeadZeros r = eqb (byte 0 r / 64) 0 && eqb (byte 0 r % 32) 0 && eqb (byte 1 r % 128) 0
 
-unfoldable pub vcmHeadAt : List ℕ → VcmHead
-vcmHeadAt r =
+unfoldable pub vcmHeadOf : List ℕ → VcmHead
+vcmHeadOf r =
     record {
       included = byte 0 r / 32 % 2;
       splice = byte 1 r / 128;
@@ -104,7 +104,7 @@ vcmHead =
     record {
       size = 7;
       zeros = vcmHeadZeros;
-      look = vcmHeadAt;
+      look = vcmHeadOf;
       fair = λ index h. true;
       takes = λ h. 0;
       described = false;
@@ -114,20 +114,20 @@ vcmHead =
 -- application number (16); carrier reference (8); then for transport 0 programme (16) and mode reference (8), for
 -- transport 1 scrambled (1), zero (3), video standard (4) and 16 zero bits
 
-unfoldable pub transport : List ℕ → ℕ
-transport r = byte 2 r / 16 % 2
+unfoldable pub transportOf : List ℕ → ℕ
+transportOf r = byte 2 r / 16 % 2
 
 unfoldable pub channelZeros : List ℕ → Bool
 channelZeros r =
     eqb (byte 0 r / 16) 0
     && eqb (byte 2 r / 64 % 2) 0
-    && cond (eqb (transport r) 0) true (eqb (byte 6 r / 16 % 8) 0 && eqb (byte 7 r) 0 && eqb (byte 8 r) 0)
+    && cond (eqb (transportOf r) 0) true (eqb (byte 6 r / 16 % 8) 0 && eqb (byte 7 r) 0 && eqb (byte 8 r) 0)
 
-unfoldable pub signal : List ℕ → Signal
-signal r = cond (eqb (transport r) 0) (Digital (word 6 r) (byte 8 r)) (Analogue (byte 6 r / 128) (byte 6 r % 16))
+unfoldable pub signalOf : List ℕ → Signal
+signalOf r = cond (eqb (transportOf r) 0) (Digital (word 6 r) (byte 8 r)) (Analogue (byte 6 r / 128) (byte 6 r % 16))
 
-unfoldable pub channel : List ℕ → Channel
-channel r =
+unfoldable pub channelOf : List ℕ → Channel
+channelOf r =
     record {
       number = byte 0 r % 16 * 256 + byte 1 r;
       application = byte 2 r / 128;
@@ -135,7 +135,7 @@ channel r =
       kind = byte 2 r % 16;
       source = word 3 r;
       carrier = byte 5 r;
-      signal = signal r;
+      signal = signalOf r;
     }
 
 unfoldable pub standardFair : Signal → Bool
@@ -152,7 +152,7 @@ vcm h =
     record {
       size = 9;
       zeros = channelZeros;
-      look = channel;
+      look = channelOf;
       fair = channelFair;
       takes = λ c. 0;
       described = eqb (h .included) 1;
@@ -163,15 +163,15 @@ vcm h =
 unfoldable pub dcmHeadZeros : List ℕ → Bool
 dcmHeadZeros r = eqb (byte 0 r / 16) 0 && eqb (byte 2 r / 128) 0
 
-unfoldable pub dcmHeadAt : List ℕ → DcmHead
-dcmHeadAt r = record { first = byte 0 r % 16 * 256 + byte 1 r; length = byte 2 r % 128 }
+unfoldable pub dcmHeadOf : List ℕ → DcmHead
+dcmHeadOf r = record { first = byte 0 r % 16 * 256 + byte 1 r; length = byte 2 r % 128 }
 
 unfoldable pub dcmHead : Layout DcmHead
 dcmHead =
     record {
       size = 3;
       zeros = dcmHeadZeros;
-      look = dcmHeadAt;
+      look = dcmHeadOf;
       fair = λ index h. true;
       takes = λ h. 0;
       described = false;
@@ -179,8 +179,8 @@ dcmHead =
 
 -- ---- a range byte: range-defined (1), channel count (7)
 
-unfoldable pub range : List ℕ → Range
-range r = record { defined = byte 0 r / 128; count = byte 0 r % 128 }
+unfoldable pub rangeOf : List ℕ → Range
+rangeOf r = record { defined = byte 0 r / 128; count = byte 0 r % 128 }
 
 -- 10: channel count 0; a DCM range past 4095
 unfoldable pub rangeFair : ℕ → Range → Bool
@@ -192,7 +192,7 @@ dcm =
     record {
       size = 1;
       zeros = λ r. true;
-      look = range;
+      look = rangeOf;
       fair = rangeFair;
       takes = λ r. r .count;
       described = false;

@@ -25,15 +25,19 @@ use Rattle.rules.specs.declared.Tuned.the-variants as Tuned
 -- ---- 15 and 16: the live places
 
 -- 15: one of the four tables isn't live
-unfoldable pub live : State → Table → Bool
-live s t = eqb (heldOf s t .live .present) 1
+unfoldable pub tableLive : State → Table → Bool
+tableLive s t = eqb (heldOf s t .live .present) 1
 
 unfoldable pub allLive : State → Bool
-allLive s = live s Cds && live s Mms && live s Vcm && live s Dcm
+allLive s = tableLive s Cds && tableLive s Mms && tableLive s Vcm && tableLive s Dcm
+
+-- sections 0 to last of a live table
+unfoldable pub liveCount : State → Table → ℕ
+liveCount s t = heldOf s t .live .last + 1
 
 -- what the place of section n of a live table reads as
-unfoldable pub reading : State → List ℕ → Table → (n : ℕ) → Reading
-reading s store t n = readSection (sectionAt store (placeOf (limitOf s) t (heldOf s t .half) n))
+unfoldable pub liveReading : State → List ℕ → Table → (n : ℕ) → Reading
+liveReading s store t n = readSection (sectionAt store (placeOf (limitOf s) t (heldOf s t .half) n))
 
 -- 16: it reads right as that table, map, version, number and last
 unfoldable pub readsAs : State → Table → (n : ℕ) → Reading → Bool
@@ -50,12 +54,8 @@ unfoldable pub every : (n : ℕ) → (ℕ → Bool) → Bool
 every zero test = true
 every (suc n) test = every n test && test n
 
--- sections 0 to last of a live table
-unfoldable pub count : State → Table → ℕ
-count s t = heldOf s t .live .last + 1
-
 unfoldable pub tableReads : State → List ℕ → Table → Bool
-tableReads s store t = every (count s t) (λ n. readsAs s t n (reading s store t n))
+tableReads s store t = every (liveCount s t) (λ n. readsAs s t n (liveReading s store t n))
 
 unfoldable pub allRead : State → List ℕ → Bool
 allRead s store =
@@ -93,7 +93,7 @@ recordsIn records (right c) = records (c .body)
 
 -- the live records of a table, lowest section first
 unfoldable pub liveRecords : {R : Type 0} → (Body → List R) → State → List ℕ → Table → List R
-liveRecords records s store t = sections (λ n. recordsIn records (reading s store t n)) (count s t) 0
+liveRecords records s store t = sections (λ n. recordsIn records (liveReading s store t n)) (liveCount s t) 0
 
 pub record Plant : Type 0 where
   pub carriers : List (Numbered Carriers)
@@ -127,6 +127,14 @@ isChannel number e = eqb (e .what .number) number
 
 unfoldable pub isRange : (number : ℕ) → Numbered Range → Bool
 isRange number e = covers (e .index) (e .what .count) number
+
+-- "A channel is defined when its first covering DCM range has range-defined 1."
+unfoldable pub definedBy : Option (Numbered Range) → Bool
+definedBy none = false
+definedBy (some e) = eqb (e .what .defined) 1
+
+unfoldable pub defined : List (Numbered Range) → (number : ℕ) → Bool
+defined rs number = definedBy (first (isRange number) rs)
 
 -- ---- 17 to 21, in their order
 
@@ -168,13 +176,12 @@ unfoldable pub tuneChannel : Plant → Channel → Tuned
 tuneChannel p c =
     cond (eqb (c .application) 1) (Tuned.Application (hidden c) (c .path) (c .source)) (tuneCarrier p c)
 
--- 17: "A channel is defined when its first covering DCM range has range-defined 1."; 18: defined, but no channel record
+-- 17: channel not defined; 18: defined, but no channel record
 unfoldable pub lookUp : Plant → (number : ℕ) → Tuned
 lookUp p number =
-    found (first (isRange number) (p .ranges)) 17 (λ r.
-    needs (eqb (r .what .defined) 1) 17
+    needs (defined (p .ranges) number) 17
     (found (first (isChannel number) (p .channels)) 18 (λ c.
-    tuneChannel p (c .what))))
+    tuneChannel p (c .what)))
 
 -- ---- "For tuning: 1, 2, 14, 15, 16, then 17 to 21."
 

@@ -142,7 +142,23 @@ pub struct Offered {
 // To a channel number.
 pub enum Tuned {
     Refused(u8),
-    Digital { hidden: u8, path: u8, khz: u32, program: u16, mode: Mode },
-    Analogue { hidden: u8, path: u8, khz: u32, standard: u8, scrambled: u8 },
-    Application { hidden: u8, path: u8, number: u16 },
+    Digital {
+        hidden: u8,
+        path: u8,
+        khz: u32,
+        program: u16,
+        mode: Mode,
+    },
+    Analogue {
+        hidden: u8,
+        path: u8,
+        khz: u32,
+        standard: u8,
+        scrambled: u8,
+    },
+    Application {
+        hidden: u8,
+        path: u8,
+        number: u16,
+    },
 }

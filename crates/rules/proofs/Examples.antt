@@ -1,0 +1,192 @@
+-- Document 01, "Examples": C1 to C13 and the two printed line-ups, as one collected fact about the rules.
+-- Each part is computed from the definitions, on whole sections with their CRC.
+use Prim.Native.Nat.{ℕ}
+use mathlib.Core.Path.{_≡_, refl}
+use mathlib.Core.Bool.{Bool, true, false}
+use mathlib.Core.List.{List, [], _∷_, _++_, map}
+use lib.Count.{ones, onesIn}
+use Rattle.rules.specs.Bytes.{unless, andThen, giving, byte, from}
+use Rattle.rules.specs.Crc.{shift, bitsOf, shiftAll, crcFrom}
+use Rattle.rules.specs.Descriptors.{Descriptor, descriptor, passed, counted, filling, closing, bodies}
+use Rattle.rules.specs.Layout.{Numbered, numbered, bare, entry, after, records, head}
+use Rattle.rules.specs.Tables.{carriersZeros, carriersOf, inKhz, carrierKhz, carriersFair, cds, modeZeros, modeOf, among, assigned, modeFair, mms, vcmHeadZeros, vcmHeadOf, vcmHead, transportOf, channelZeros, signalOf, channelOf, standardFair, channelFair, vcm, dcmHeadZeros, dcmHeadOf, dcmHead, rangeOf, rangeFair, dcm}
+use Rattle.rules.specs.Section.{Body, carriers, modes, channels, ranges, Content, right, mediumAt, named, given, header, mapOf, body, revision, content, lengthOf, fitting, room, whole, read, readSection, checkOf, check, sizeOf, firstOf, askedOf, ask, partOf}
+use Rattle.rules.specs.Holding.{Box, limitOf, tables, indexOf, placeOf, storeSize, sectionAt, put, heldOf, with, noneLive, noneGathered, nothing, fresh, holds, allOf, isLive, isGathered, liveFormed, gatheredFormed, sameVersion, holdingFormed, wellFormed, clashes, known, heldWith, goneLive, gathers, taken, stepOf, hasMap, otherMap, stepped, offeredAs, offered, takesIn, gatheredAt, putAs, storeAfter, answerTo, boxAfter, run, answers}
+use Rattle.rules.specs.Search.{first, sections}
+use Rattle.rules.specs.Tuning.{tableLive, allLive, liveCount, liveReading, readsAs, every, tableReads, allRead, carriersIn, modesIn, channelsIn, rangesIn, recordsIn, liveRecords, plant, covers, isCarrier, isMode, isChannel, isRange, definedBy, defined, needs, found, hidden, tuneSignal, tuneKhz, tuneCarrier, tuneChannel, lookUp, tune}
+use Rattle.rules.specs.Lineup.{text, digits, decimal, field, line, cut, sectionsOf, freshBox, refusals, version, channelLine, channelLines, joined, printed, printedOf, lineup}
+use Rattle.rules.specs.declared.Table.the-variants.{Cds, Mms, Vcm, Dcm}
+use Rattle.rules.specs.declared.Mode.{Mode}
+use Rattle.rules.specs.declared.Signal.the-variants.{Digital, Analogue}
+use Rattle.rules.specs.declared.Range.{Range}
+use Rattle.rules.specs.declared.Revision.{Revision}
+use Rattle.rules.specs.declared.Answer.the-variants.{Refused, Repeat, Stored, Live}
+use Rattle.rules.specs.declared.Tuned.{Tuned}
+use Rattle.rules.specs.declared.Tuned.the-variants as Tuned
+use Rattle.rules.proofs.Hex.{hex}
+
+-- what a channel is tuned to by a box of map 0 that was given these sections
+unfoldable pub tuned : (sections : List (List ℕ)) → (number : ℕ) → Tuned
+tuned sections number = let b = run (freshBox 0) sections in tune (b .state) (b .store) number
+
+-- several channels of one box
+unfoldable pub tunedAll : (sections : List (List ℕ)) → (numbers : List ℕ) → List Tuned
+tunedAll sections numbers = let b = run (freshBox 0) sections in map (tune (b .state) (b .store)) numbers
+
+-- what a section with the record of C1 reads as
+unfoldable pub c1Content : List Descriptor → Revision → Content
+c1Content closing revision =
+    record {
+      table = Cds;
+      map = 0;
+      body = carriers 1 (record { index = 1; what = record { count = 2; spacing = record { unit = 1; number = 48 }; first = record { unit = 1; number = 456 } } } ∷ []);
+      closing = closing;
+      revision = revision;
+    }
+
+-- C1, C12 at mode index 1, C7 and C9, first index 1
+unfoldable pub examplePlant : List (List ℕ)
+examplePlant =
+    hex "C2 30 13 00 01 01 01 02 80 30 81 C8 00 93 03 E5 00 00 74 9E FB E2"
+    ∷ hex "C2 30 14 00 01 01 02 2F 08 00 4D 29 AD 00 93 03 E5 00 00 CE 5B B1 EE"
+    ∷ hex "C4 30 13 00 01 00 00 00 02 03 83 05 81 93 03 E5 00 00 90 74 69 2E"
+    ∷ hex "C4 30 1D 00 00 00 00 00 00 00 00 00 00 01 00 03 00 12 34 02 00 03 01 93 03 E5 00 00 43 E6 31 47"
+    ∷ []
+
+-- the records of C2, C3 and C4 as carriers 2 to 5 of one section, for channels 2 to 5
+unfoldable pub bordersPlant : List (List ℕ)
+bordersPlant =
+    hex "C2 30 25 00 02 04 01 01 00 00 15 18 00 01 00 00 15 17 00 01 00 00 9F 50 00 01 00 00 9F 51 00 93 03 E5 00 00 4A F4 C4 0A"
+    ∷ hex "C2 30 14 00 01 01 02 2F 08 00 4D 29 AD 00 93 03 E5 00 00 CE 5B B1 EE"
+    ∷ hex "C4 30 11 00 01 00 00 00 02 01 84 93 03 E5 00 00 0C B9 F5 D9"
+    ∷ hex "C4 30 38 00 00 00 00 00 00 00 00 00 00 04 00 02 00 12 34 02 00 03 01 00 03 00 12 34 03 00 03 01 00 04 00 12 34 04 00 03 01 00 05 00 12 34 05 00 03 01 93 03 E5 00 00 A9 F1 EE 35"
+    ∷ []
+
+-- the ranges of C7
+unfoldable pub c7Ranges : List (Numbered Range)
+c7Ranges =
+    record { index = 2; what = record { defined = 1; count = 3 } }
+    ∷ record { index = 5; what = record { defined = 0; count = 5 } }
+    ∷ record { index = 10; what = record { defined = 1; count = 1 } }
+    ∷ []
+
+-- the mode of C12
+unfoldable pub c12Mode : Mode
+c12Mode = record { system = 2; inner = 15; split = 0; format = 8; symbols = 5056941 }
+
+pub record Examples : Type 0 where
+  -- C1 `02 80 30 81 C8`: 57,000 and 63,000 kHz
+  pub c1 :
+      (readSection (hex "C2 30 13 00 01 01 01 02 80 30 81 C8 00 93 03 E5 00 00 74 9E FB E2") ≡ right (c1Content (record { tag = 0x93; body = hex "E5 00 00" } ∷ []) (record { version = 5; number = 0; last = 0 })))
+      × (carrierKhz (carriersOf (hex "02 80 30 81 C8")) 0 ≡ 57000)
+      × (carrierKhz (carriersOf (hex "02 80 30 81 C8")) 1 ≡ 63000)
+  -- C2 `01 00 00 15 18`: 54,000
+  pub c2 :
+      (carrierKhz (carriersOf (hex "01 00 00 15 18")) 0 ≡ 54000)
+      × (tuned bordersPlant 2 ≡ Tuned.Digital 0 0 54000 3 c12Mode)
+  -- C3 `01 00 00 15 17`: 53,990, reads, tuning gives 20
+  pub c3 :
+      (carrierKhz (carriersOf (hex "01 00 00 15 17")) 0 ≡ 53990)
+      × (check (hex "C2 30 25 00 02 04 01 01 00 00 15 18 00 01 00 00 15 17 00 01 00 00 9F 50 00 01 00 00 9F 51 00 93 03 E5 00 00 4A F4 C4 0A") ≡ 0)
+      × (tuned bordersPlant 3 ≡ Tuned.Refused 20)
+  -- C4 `01 00 00 9F 50`: 1,002,000; `..51` in the last byte: 1,002,125, gives 20
+  pub c4 :
+      (carrierKhz (carriersOf (hex "01 00 00 9F 50")) 0 ≡ 1002000)
+      × (tuned bordersPlant 4 ≡ Tuned.Digital 0 0 1002000 3 c12Mode)
+      × (carrierKhz (carriersOf (hex "01 00 00 9F 51")) 0 ≡ 1002125)
+      × (tuned bordersPlant 5 ≡ Tuned.Refused 20)
+  -- C5 `00 80 30 81 C8`: 10; `02 C0 30 81 C8`: 9
+  pub c5 :
+      (check (hex "C2 30 13 00 01 01 01 00 80 30 81 C8 00 93 03 E5 00 00 83 06 E9 89") ≡ 10)
+      × (check (hex "C2 30 13 00 01 01 01 02 C0 30 81 C8 00 93 03 E5 00 00 C8 95 54 C2") ≡ 9)
+  -- C6 `FF BF FF FF FF`: at first index 1 the last carrier is 524,256,125 kHz; at 2, refusal 10
+  pub c6 :
+      (check (hex "C2 30 13 00 01 01 01 FF BF FF FF FF 00 93 03 E5 00 00 47 F4 BE CA") ≡ 0)
+      × (carriersOf (hex "FF BF FF FF FF") .count ≡ 255)
+      × (carrierKhz (carriersOf (hex "FF BF FF FF FF")) 254 ≡ 524256125)
+      × (check (hex "C2 30 13 00 02 01 01 FF BF FF FF FF 00 93 03 E5 00 00 8F EC ED 89") ≡ 10)
+  -- C7 DCM first 2, `83 05 81`: 2 to 4 defined, 5 to 9 not, 10 defined
+  pub c7 :
+      (readSection (hex "C4 30 13 00 01 00 00 00 02 03 83 05 81 93 03 E5 00 00 90 74 69 2E") ≡ right (record { table = Dcm; map = 0; body = ranges (record { first = 2; length = 3 }) c7Ranges; closing = record { tag = 0x93; body = hex "E5 00 00" } ∷ []; revision = record { version = 5; number = 0; last = 0 } }))
+      × (map (defined c7Ranges) (2 ∷ 3 ∷ 4 ∷ 5 ∷ 6 ∷ 7 ∷ 8 ∷ 9 ∷ 10 ∷ []) ≡ true ∷ true ∷ true ∷ false ∷ false ∷ false ∷ false ∷ false ∷ true ∷ [])
+  -- C8 first 4095: `81` good, `82` gives 10
+  pub c8 :
+      (check (hex "C4 30 11 00 01 00 00 0F FF 01 81 93 03 E5 00 00 F2 D1 C9 D8") ≡ 0)
+      × (check (hex "C4 30 11 00 01 00 00 0F FF 01 82 93 03 E5 00 00 DF A9 DE 50") ≡ 10)
+  -- C9 `00 03 00 12 34 02 00 03 01`: channel 3, source 0x1234, carrier 2, programme 3, mode 1
+  pub c9 :
+      readSection (hex "C4 30 1D 00 00 00 00 00 00 00 00 00 00 01 00 03 00 12 34 02 00 03 01 93 03 E5 00 00 43 E6 31 47")
+      ≡ right (record { table = Vcm; map = 0; body = channels (record { included = 0; splice = 0; time = 0; count = 1 }) (record { index = 0; what = record { number = 3; application = 0; path = 0; kind = 0; source = 0x1234; carrier = 2; signal = Digital 3 1 } } ∷ []); closing = record { tag = 0x93; body = hex "E5 00 00" } ∷ []; revision = record { version = 5; number = 0; last = 0 } })
+  -- C10 `00 08 10 12 35 02 80 00 00`: analogue, scrambled, standard 0
+  pub c10 :
+      readSection (hex "C4 30 1D 00 00 00 00 00 00 00 00 00 00 01 00 08 10 12 35 02 80 00 00 93 03 E5 00 00 69 81 46 AD")
+      ≡ right (record { table = Vcm; map = 0; body = channels (record { included = 0; splice = 0; time = 0; count = 1 }) (record { index = 0; what = record { number = 8; application = 0; path = 0; kind = 0; source = 0x1235; carrier = 2; signal = Analogue 1 0 } } ∷ []); closing = record { tag = 0x93; body = hex "E5 00 00" } ∷ []; revision = record { version = 5; number = 0; last = 0 } })
+  -- C11 `93 03 E5 00 01`, `93 05 E5 00 01 AA BB` and `93 03 05 00 01`: each version 5, 0 of 1. `93 03 E5 02 01`: 11
+  pub c11 :
+      (readSection (hex "C2 30 13 00 01 01 01 02 80 30 81 C8 00 93 03 E5 00 01 70 5F E6 55") ≡ right (c1Content (record { tag = 0x93; body = hex "E5 00 01" } ∷ []) (record { version = 5; number = 0; last = 1 })))
+      × (readSection (hex "C2 30 15 00 01 01 01 02 80 30 81 C8 00 93 05 E5 00 01 AA BB 99 3A 5E C8") ≡ right (c1Content (record { tag = 0x93; body = hex "E5 00 01 AA BB" } ∷ []) (record { version = 5; number = 0; last = 1 })))
+      × (readSection (hex "C2 30 13 00 01 01 01 02 80 30 81 C8 00 93 03 05 00 01 D1 37 14 F5") ≡ right (c1Content (record { tag = 0x93; body = hex "05 00 01" } ∷ []) (record { version = 5; number = 0; last = 1 })))
+      × (check (hex "C2 30 13 00 01 01 01 02 80 30 81 C8 00 93 03 E5 02 01 D0 AD 78 5A") ≡ 11)
+  -- C12 `2F 08 00 4D 29 AD`: system 2, inner 15, format 8, 5,056,941 symbols
+  pub c12 :
+      readSection (hex "C2 30 14 00 01 01 02 2F 08 00 4D 29 AD 00 93 03 E5 00 00 CE 5B B1 EE")
+      ≡ right (record { table = Mms; map = 0; body = modes 1 (record { index = 1; what = c12Mode } ∷ []); closing = record { tag = 0x93; body = hex "E5 00 00" } ∷ []; revision = record { version = 5; number = 0; last = 0 } })
+  -- C13 offers (v/n/last): 5/0/1 stored, 1 missing; again, repeat; 6/0/0 live; 5/1/1 stored, 1 missing; 6/0/0 repeat;
+  -- 5/0/1 live; 5/0/0 refusal 13; 7/0/4 refusal 12
+  pub c13 :
+      answers (freshBox 0)
+      (hex "C2 30 13 00 01 01 01 02 80 30 81 C8 00 93 03 E5 00 01 70 5F E6 55"
+      ∷ hex "C2 30 13 00 01 01 01 02 80 30 81 C8 00 93 03 E5 00 01 70 5F E6 55"
+      ∷ hex "C2 30 13 00 01 01 01 02 80 30 81 C8 00 93 03 E6 00 00 76 F7 0E 6B"
+      ∷ hex "C2 30 13 00 01 01 01 02 80 30 81 C8 00 93 03 E5 01 01 A2 46 27 89"
+      ∷ hex "C2 30 13 00 01 01 01 02 80 30 81 C8 00 93 03 E6 00 00 76 F7 0E 6B"
+      ∷ hex "C2 30 13 00 01 01 01 02 80 30 81 C8 00 93 03 E5 00 01 70 5F E6 55"
+      ∷ hex "C2 30 13 00 01 01 01 02 80 30 81 C8 00 93 03 E5 00 00 74 9E FB E2"
+      ∷ hex "C2 30 13 00 01 01 01 02 80 30 81 C8 00 93 03 E7 00 04 64 2B D4 30"
+      ∷ [])
+      ≡ Stored 1 ∷ Repeat ∷ Live 6 ∷ Stored 1 ∷ Repeat ∷ Live 5 ∷ Refused 13 ∷ Refused 12 ∷ []
+  -- "Input 00 00 prints, whole"
+  pub empty : lineup (hex "00 00") ≡ text "lineup=1\nmap=0\nsections=0\nrefused=0\ncds=none\nmms=none\nvcm=none\ndcm=none\nchannels=0\n"
+  -- "The digital line comes from C1, C12 at mode index 1, C7 and C9, all live, first index 1": the whole output
+  pub digital :
+      lineup (hex "00 00" ++ joined examplePlant)
+      ≡ text "lineup=1\nmap=0\nsections=4\nrefused=0\ncds=5\nmms=5\nvcm=5\ndcm=5\nchannels=1\n"
+      ++ text "channel=3 kind=digital hidden=0 path=0 khz=63000 program=3 system=2 inner=15 split=0 format=8 symbols=5056941\n"
+
+-- the four tunings of C2, C3 and C4, computed on one box
+borders :
+    tunedAll bordersPlant (2 ∷ 3 ∷ 4 ∷ 5 ∷ [])
+    ≡ Tuned.Digital 0 0 54000 3 c12Mode ∷ Tuned.Refused 20 ∷ Tuned.Digital 0 0 1002000 3 c12Mode ∷ Tuned.Refused 20 ∷ []
+unfolding unless andThen giving byte from shift bitsOf shiftAll crcFrom descriptor passed counted filling closing bodies numbered bare entry after records head carriersZeros carriersOf inKhz carrierKhz carriersFair cds modeZeros modeOf among assigned modeFair mms vcmHeadZeros vcmHeadOf vcmHead transportOf channelZeros signalOf channelOf standardFair channelFair vcm dcmHeadZeros dcmHeadOf dcmHead rangeOf rangeFair dcm mediumAt named given header mapOf body revision content lengthOf fitting room whole read readSection checkOf check sizeOf firstOf askedOf ask partOf limitOf tables indexOf placeOf storeSize sectionAt put heldOf with noneLive noneGathered nothing fresh holds allOf isLive isGathered liveFormed gatheredFormed sameVersion holdingFormed wellFormed clashes known heldWith goneLive gathers taken stepOf hasMap otherMap stepped offeredAs offered takesIn gatheredAt putAs storeAfter answerTo boxAfter run answers first sections tableLive allLive liveCount liveReading readsAs every tableReads allRead carriersIn modesIn channelsIn rangesIn recordsIn liveRecords plant covers isCarrier isMode isChannel isRange definedBy defined needs found hidden tuneSignal tuneKhz tuneCarrier tuneChannel lookUp tune text digits decimal field line cut sectionsOf freshBox refusals version channelLine channelLines joined printed printedOf lineup hex ones onesIn tuned c1Content examplePlant bordersPlant c7Ranges c12Mode tunedAll
+borders = refl
+
+pub record Borders : Type 0 where
+  pub two : tuned bordersPlant 2 ≡ Tuned.Digital 0 0 54000 3 c12Mode
+  pub three : tuned bordersPlant 3 ≡ Tuned.Refused 20
+  pub fourth : tuned bordersPlant 4 ≡ Tuned.Digital 0 0 1002000 3 c12Mode
+  pub five : tuned bordersPlant 5 ≡ Tuned.Refused 20
+
+each : Borders
+unfolding tuned tunedAll
+each = let e = borders in record { two = cc; three = cc; fourth = cc; five = cc }
+
+pub examples : Examples
+unfolding unless andThen giving byte from shift bitsOf shiftAll crcFrom descriptor passed counted filling closing bodies numbered bare entry after records head carriersZeros carriersOf inKhz carrierKhz carriersFair cds modeZeros modeOf among assigned modeFair mms vcmHeadZeros vcmHeadOf vcmHead transportOf channelZeros signalOf channelOf standardFair channelFair vcm dcmHeadZeros dcmHeadOf dcmHead rangeOf rangeFair dcm mediumAt named given header mapOf body revision content lengthOf fitting room whole read readSection checkOf check sizeOf firstOf askedOf ask partOf limitOf tables indexOf placeOf storeSize sectionAt put heldOf with noneLive noneGathered nothing fresh holds allOf isLive isGathered liveFormed gatheredFormed sameVersion holdingFormed wellFormed clashes known heldWith goneLive gathers taken stepOf hasMap otherMap stepped offeredAs offered takesIn gatheredAt putAs storeAfter answerTo boxAfter run answers first sections tableLive allLive liveCount liveReading readsAs every tableReads allRead carriersIn modesIn channelsIn rangesIn recordsIn liveRecords plant covers isCarrier isMode isChannel isRange definedBy defined needs found hidden tuneSignal tuneKhz tuneCarrier tuneChannel lookUp tune text digits decimal field line cut sectionsOf freshBox refusals version channelLine channelLines joined printed printedOf lineup hex ones onesIn tuned c1Content examplePlant bordersPlant c7Ranges c12Mode
+examples =
+    record {
+      c1 = (refl, refl, refl);
+      c2 = (refl, each .two);
+      c3 = (refl, refl, each .three);
+      c4 = (refl, each .fourth, refl, each .five);
+      c5 = (refl, refl);
+      c6 = (refl, refl, refl, refl);
+      c7 = (refl, refl);
+      c8 = (refl, refl);
+      c9 = refl;
+      c10 = refl;
+      c11 = (refl, refl, refl, refl);
+      c12 = refl;
+      c13 = refl;
+      empty = refl;
+      digital = refl;
+    }
