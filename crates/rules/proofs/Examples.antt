@@ -4,17 +4,13 @@ use Prim.Native.Nat.{ℕ}
 use mathlib.Core.Path.{_≡_, refl}
 use mathlib.Core.Bool.{Bool, true, false}
 use mathlib.Core.List.{List, [], _∷_, _++_, map}
-use lib.Count.{ones, onesIn}
-use Rattle.rules.specs.Bytes.{unless, andThen, giving, byte, from}
-use Rattle.rules.specs.Crc.{shift, bitsOf, shiftAll, crcFrom}
-use Rattle.rules.specs.Descriptors.{Descriptor, descriptor, passed, counted, filling, closing, bodies}
-use Rattle.rules.specs.Layout.{Numbered, numbered, bare, entry, after, records, head}
-use Rattle.rules.specs.Tables.{carriersZeros, carriersOf, inKhz, carrierKhz, carriersFair, cds, modeZeros, modeOf, among, assigned, modeFair, mms, vcmHeadZeros, vcmHeadOf, vcmHead, transportOf, channelZeros, signalOf, channelOf, standardFair, channelFair, vcm, dcmHeadZeros, dcmHeadOf, dcmHead, rangeOf, rangeFair, dcm}
-use Rattle.rules.specs.Section.{Body, carriers, modes, channels, ranges, Content, right, mediumAt, named, given, header, mapOf, body, revision, content, lengthOf, fitting, room, whole, read, readSection, checkOf, check, sizeOf, firstOf, askedOf, ask, partOf}
-use Rattle.rules.specs.Holding.{Box, limitOf, tables, indexOf, placeOf, storeSize, sectionAt, put, heldOf, with, noneLive, noneGathered, nothing, fresh, holds, allOf, isLive, isGathered, liveFormed, gatheredFormed, sameVersion, holdingFormed, wellFormed, clashes, known, heldWith, goneLive, gathers, taken, stepOf, hasMap, otherMap, stepped, offeredAs, offered, takesIn, gatheredAt, putAs, storeAfter, answerTo, boxAfter, run, answers}
-use Rattle.rules.specs.Search.{first, sections}
-use Rattle.rules.specs.Tuning.{tableLive, allLive, liveCount, liveReading, readsAs, every, tableReads, allRead, carriersIn, modesIn, channelsIn, rangesIn, recordsIn, liveRecords, plant, covers, isCarrier, isMode, isChannel, isRange, definedBy, defined, needs, found, hidden, tuneSignal, tuneKhz, tuneCarrier, tuneChannel, lookUp, tune}
-use Rattle.rules.specs.Lineup.{text, digits, decimal, field, line, cut, sectionsOf, freshBox, refusals, version, channelLine, channelLines, joined, printed, printedOf, lineup}
+use Rattle.rules.specs.Descriptors.{Descriptor}
+use Rattle.rules.specs.Layout.{Numbered}
+use Rattle.rules.specs.Tables.{carriersOf, carrierKhz}
+use Rattle.rules.specs.Section.{carriers, modes, channels, ranges, Content, right, readSection, check}
+use Rattle.rules.specs.Holding.{run, answers}
+use Rattle.rules.specs.Tuning.{defined, tune}
+use Rattle.rules.specs.Lineup.{text, freshBox, joined, lineup}
 use Rattle.rules.specs.declared.Table.the-variants.{Cds, Mms, Vcm, Dcm}
 use Rattle.rules.specs.declared.Mode.{Mode}
 use Rattle.rules.specs.declared.Signal.the-variants.{Digital, Analogue}
@@ -24,17 +20,18 @@ use Rattle.rules.specs.declared.Answer.the-variants.{Refused, Repeat, St
 use Rattle.rules.specs.declared.Tuned.{Tuned}
 use Rattle.rules.specs.declared.Tuned.the-variants as Tuned
 use Rattle.rules.proofs.Hex.{hex}
+use Rattle.rules.proofs.Computed.{computed}
 
 -- what a channel is tuned to by a box of map 0 that was given these sections
-unfoldable pub tuned : (sections : List (List ℕ)) → (number : ℕ) → Tuned
+abbrev pub tuned : (sections : List (List ℕ)) → (number : ℕ) → Tuned
 tuned sections number = let b = run (freshBox 0) sections in tune (b .state) (b .store) number
 
 -- several channels of one box
-unfoldable pub tunedAll : (sections : List (List ℕ)) → (numbers : List ℕ) → List Tuned
+abbrev pub tunedAll : (sections : List (List ℕ)) → (numbers : List ℕ) → List Tuned
 tunedAll sections numbers = let b = run (freshBox 0) sections in map (tune (b .state) (b .store)) numbers
 
 -- what a section with the record of C1 reads as
-unfoldable pub c1Content : List Descriptor → Revision → Content
+abbrev pub c1Content : List Descriptor → Revision → Content
 c1Content closing revision =
     record {
       table = Cds;
@@ -45,7 +42,7 @@ c1Content closing revision =
     }
 
 -- C1, C12 at mode index 1, C7 and C9, first index 1
-unfoldable pub examplePlant : List (List ℕ)
+abbrev pub examplePlant : List (List ℕ)
 examplePlant =
     hex "C2 30 13 00 01 01 01 02 80 30 81 C8 00 93 03 E5 00 00 74 9E FB E2"
     ∷ hex "C2 30 14 00 01 01 02 2F 08 00 4D 29 AD 00 93 03 E5 00 00 CE 5B B1 EE"
@@ -54,7 +51,7 @@ examplePlant =
     ∷ []
 
 -- the records of C2, C3 and C4 as carriers 2 to 5 of one section, for channels 2 to 5
-unfoldable pub bordersPlant : List (List ℕ)
+abbrev pub bordersPlant : List (List ℕ)
 bordersPlant =
     hex "C2 30 25 00 02 04 01 01 00 00 15 18 00 01 00 00 15 17 00 01 00 00 9F 50 00 01 00 00 9F 51 00 93 03 E5 00 00 4A F4 C4 0A"
     ∷ hex "C2 30 14 00 01 01 02 2F 08 00 4D 29 AD 00 93 03 E5 00 00 CE 5B B1 EE"
@@ -63,7 +60,7 @@ bordersPlant =
     ∷ []
 
 -- the ranges of C7
-unfoldable pub c7Ranges : List (Numbered Range)
+abbrev pub c7Ranges : List (Numbered Range)
 c7Ranges =
     record { index = 2; what = record { defined = 1; count = 3 } }
     ∷ record { index = 5; what = record { defined = 0; count = 5 } }
@@ -71,7 +68,7 @@ c7Ranges =
     ∷ []
 
 -- the mode of C12
-unfoldable pub c12Mode : Mode
+abbrev pub c12Mode : Mode
 c12Mode = record { system = 2; inner = 15; split = 0; format = 8; symbols = 5056941 }
 
 pub record Examples : Type 0 where
@@ -153,31 +150,28 @@ pub record Examples : Type 0 where
       ≡ text "lineup=1\nmap=0\nsections=4\nrefused=0\ncds=5\nmms=5\nvcm=5\ndcm=5\nchannels=1\n"
       ++ text "channel=3 kind=digital hidden=0 path=0 khz=63000 program=3 system=2 inner=15 split=0 format=8 symbols=5056941\n"
 
--- the four tunings of C2, C3 and C4, computed on one box
+-- the four tunings of C2, C3 and C4, computed on one box, and each of them
 borders :
     tunedAll bordersPlant (2 ∷ 3 ∷ 4 ∷ 5 ∷ [])
     ≡ Tuned.Digital 0 0 54000 3 c12Mode ∷ Tuned.Refused 20 ∷ Tuned.Digital 0 0 1002000 3 c12Mode ∷ Tuned.Refused 20 ∷ []
-unfolding unless andThen giving byte from shift bitsOf shiftAll crcFrom descriptor passed counted filling closing bodies numbered bare entry after records head carriersZeros carriersOf inKhz carrierKhz carriersFair cds modeZeros modeOf among assigned modeFair mms vcmHeadZeros vcmHeadOf vcmHead transportOf channelZeros signalOf channelOf standardFair channelFair vcm dcmHeadZeros dcmHeadOf dcmHead rangeOf rangeFair dcm mediumAt named given header mapOf body revision content lengthOf fitting room whole read readSection checkOf check sizeOf firstOf askedOf ask partOf limitOf tables indexOf placeOf storeSize sectionAt put heldOf with noneLive noneGathered nothing fresh holds allOf isLive isGathered liveFormed gatheredFormed sameVersion holdingFormed wellFormed clashes known heldWith goneLive gathers taken stepOf hasMap otherMap stepped offeredAs offered takesIn gatheredAt putAs storeAfter answerTo boxAfter run answers first sections tableLive allLive liveCount liveReading readsAs every tableReads allRead carriersIn modesIn channelsIn rangesIn recordsIn liveRecords plant covers isCarrier isMode isChannel isRange definedBy defined needs found hidden tuneSignal tuneKhz tuneCarrier tuneChannel lookUp tune text digits decimal field line cut sectionsOf freshBox refusals version channelLine channelLines joined printed printedOf lineup hex ones onesIn tuned c1Content examplePlant bordersPlant c7Ranges c12Mode tunedAll
+unfolding computed
 borders = refl
 
-pub record Borders : Type 0 where
-  pub two : tuned bordersPlant 2 ≡ Tuned.Digital 0 0 54000 3 c12Mode
-  pub three : tuned bordersPlant 3 ≡ Tuned.Refused 20
-  pub fourth : tuned bordersPlant 4 ≡ Tuned.Digital 0 0 1002000 3 c12Mode
-  pub five : tuned bordersPlant 5 ≡ Tuned.Refused 20
-
-each : Borders
-unfolding tuned tunedAll
-each = let e = borders in record { two = cc; three = cc; fourth = cc; five = cc }
+each :
+    (tuned bordersPlant 2 ≡ Tuned.Digital 0 0 54000 3 c12Mode)
+    × (tuned bordersPlant 3 ≡ Tuned.Refused 20)
+    × (tuned bordersPlant 4 ≡ Tuned.Digital 0 0 1002000 3 c12Mode)
+    × (tuned bordersPlant 5 ≡ Tuned.Refused 20)
+each = let e = borders in (cc, cc, cc, cc)
 
 pub examples : Examples
-unfolding unless andThen giving byte from shift bitsOf shiftAll crcFrom descriptor passed counted filling closing bodies numbered bare entry after records head carriersZeros carriersOf inKhz carrierKhz carriersFair cds modeZeros modeOf among assigned modeFair mms vcmHeadZeros vcmHeadOf vcmHead transportOf channelZeros signalOf channelOf standardFair channelFair vcm dcmHeadZeros dcmHeadOf dcmHead rangeOf rangeFair dcm mediumAt named given header mapOf body revision content lengthOf fitting room whole read readSection checkOf check sizeOf firstOf askedOf ask partOf limitOf tables indexOf placeOf storeSize sectionAt put heldOf with noneLive noneGathered nothing fresh holds allOf isLive isGathered liveFormed gatheredFormed sameVersion holdingFormed wellFormed clashes known heldWith goneLive gathers taken stepOf hasMap otherMap stepped offeredAs offered takesIn gatheredAt putAs storeAfter answerTo boxAfter run answers first sections tableLive allLive liveCount liveReading readsAs every tableReads allRead carriersIn modesIn channelsIn rangesIn recordsIn liveRecords plant covers isCarrier isMode isChannel isRange definedBy defined needs found hidden tuneSignal tuneKhz tuneCarrier tuneChannel lookUp tune text digits decimal field line cut sectionsOf freshBox refusals version channelLine channelLines joined printed printedOf lineup hex ones onesIn tuned c1Content examplePlant bordersPlant c7Ranges c12Mode
+unfolding computed
 examples =
     record {
       c1 = (refl, refl, refl);
-      c2 = (refl, each .two);
-      c3 = (refl, refl, each .three);
-      c4 = (refl, each .fourth, refl, each .five);
+      c2 = (refl, each .0);
+      c3 = (refl, refl, each .1);
+      c4 = (refl, each .2, refl, each .3);
       c5 = (refl, refl);
       c6 = (refl, refl, refl, refl);
       c7 = (refl, refl);

@@ -18,7 +18,7 @@ descriptor bs =
     (unless (leb (byte 1 bs) (length bs - 2)) 8
     (got (record { tag = byte 0 bs; body = take (byte 1 bs) (from bs 2) }) (from bs (2 + byte 1 bs))))
 
--- so many descriptors, passed over
+-- so many descriptors, passed over whatever their tags
 unfoldable pub passed : ℕ → List ℕ → Got Unit
 passed zero bs = got tt bs
 passed (suc n) bs = andThen (descriptor bs) (λ d rest. passed n rest)

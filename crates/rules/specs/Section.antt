@@ -68,7 +68,7 @@ pub data Body : Type 0 where
 unfoldable pub body : Table → List ℕ → Got Body
 body Cds bs = giving (carriers (byte 4 bs)) (records cds (byte 5 bs) (byte 4 bs) (from bs 7))
 body Mms bs = giving (modes (byte 4 bs)) (records mms (byte 5 bs) (byte 4 bs) (from bs 7))
-body Vcm bs = andThen (head vcmHead (from bs 7)) (λ h rest. giving (channels h) (records (vcm h) (h .count) 0 rest))
+body Vcm bs = andThen (head vcmHead (from bs 7)) (λ h rest. giving (channels h) (records (vcm (h .included)) (h .count) 0 rest))
 body Dcm bs = andThen (head dcmHead (from bs 7)) (λ h rest. giving (ranges h) (records dcm (h .length) (h .first) rest))
 
 -- ---- The revision descriptor, tag 0x93: 3 reserved bits, version (5), section number (8), last number (8), then perhaps more
@@ -104,7 +104,7 @@ content bs =
     (λ r. record { table = t; map = mapOf bs; body = b; closing = ds; revision = r })
     (revision (bodies revisionTag ds)))))
 
--- section length L, 12 bits, counting all that follows
+-- section length L, the 12 low bits of bytes 1 and 2; it counts all that follows. The two bits above it are reserved
 unfoldable pub lengthOf : List ℕ → ℕ
 lengthOf s = byte 1 s % 16 * 256 + byte 2 s
 

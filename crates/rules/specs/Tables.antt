@@ -85,7 +85,8 @@ modeFair index m = assigned m && leb index 255
 unfoldable pub mms : Layout Mode
 mms = record { size = 6; zeros = modeZeros; look = modeOf; fair = modeFair; takes = λ m. 1; described = true }
 
--- ---- VCM: zero (2), descriptors-included (1), zero (5); splice (1), zero (7); activation time (32); record count (8)
+-- ---- VCM: zero (2), descriptors-included (1), zero (5); splice (1), zero (7); activation time (32); record count (8).
+-- Splice and time are not acted on.
 
 unfoldable pub vcmHeadZeros : List ℕ → Bool
 vcmHeadZeros r = eqb (byte 0 r / 64) 0 && eqb (byte 0 r % 32) 0 && eqb (byte 1 r % 128) 0
@@ -147,15 +148,15 @@ unfoldable pub channelFair : ℕ → Channel → Bool
 channelFair index c = leb (c .kind) 1 && standardFair (c .signal)
 
 -- a channel record carries its number itself and takes no index; descriptors follow if descriptors-included is 1
-unfoldable pub vcm : VcmHead → Layout Channel
-vcm h =
+unfoldable pub vcm : (included : ℕ) → Layout Channel
+vcm included =
     record {
       size = 9;
       zeros = channelZeros;
       look = channelOf;
       fair = channelFair;
       takes = λ c. 0;
-      described = eqb (h .included) 1;
+      described = eqb included 1;
     }
 
 -- ---- DCM: zero (4), first channel (12); zero (1), data length (7)

@@ -54,8 +54,11 @@ unfoldable pub every : (n : ℕ) → (ℕ → Bool) → Bool
 every zero test = true
 every (suc n) test = every n test && test n
 
+unfoldable pub placeReads : State → List ℕ → Table → (n : ℕ) → Bool
+placeReads s store t n = readsAs s t n (liveReading s store t n)
+
 unfoldable pub tableReads : State → List ℕ → Table → Bool
-tableReads s store t = every (liveCount s t) (λ n. readsAs s t n (liveReading s store t n))
+tableReads s store t = every (liveCount s t) (placeReads s store t)
 
 unfoldable pub allRead : State → List ℕ → Bool
 allRead s store =
@@ -91,9 +94,13 @@ unfoldable pub recordsIn : {R : Type 0} → (Body → List R) → Reading → Li
 recordsIn records (wrong n) = []
 recordsIn records (right c) = records (c .body)
 
+-- the records of section n of a live table
+unfoldable pub liveSection : {R : Type 0} → (Body → List R) → State → List ℕ → Table → (n : ℕ) → List R
+liveSection records s store t n = recordsIn records (liveReading s store t n)
+
 -- the live records of a table, lowest section first
 unfoldable pub liveRecords : {R : Type 0} → (Body → List R) → State → List ℕ → Table → List R
-liveRecords records s store t = sections (λ n. recordsIn records (liveReading s store t n)) (liveCount s t) 0
+liveRecords records s store t = sections (liveSection records s store t) (liveCount s t) 0
 
 pub record Plant : Type 0 where
   pub carriers : List (Numbered Carriers)

@@ -1,0 +1,4 @@
+-- The laws of the CRC, and what they rest on.
+pub mod Xor
+pub mod Linear
+pub mod Laws

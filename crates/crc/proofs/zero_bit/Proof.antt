@@ -1,0 +1,19 @@
+-- `crc::zero_bit` meets its contract: the bit that leaves is 0 or not.
+use mathlib.Core.Path.{refl}
+use Prim.Native.Nat.{_/_, _^_}
+use native.Mathlib.Omega.{arith}
+use borrow.Author.Tests.{eq-eqb, ne-eqb}
+use Rattle.rules.specs.Crc.{shift}
+use Rattle.crc.proofs.zero_bit.Statement.{statement}
+use Rattle.crc.proofs.zero_bit.Tie as tie
+
+returns : tie.Need-returns
+unfolding shift
+returns c = rw (ne-eqb (c .before .args .r / 2 ^ 31) 0 (λ e. omega arith)) refl
+
+returns-2 : tie.Need-returns-2
+unfolding shift
+returns-2 c = rw (eq-eqb (c .before .args .r / 2 ^ 31) 0 (omega arith)) refl
+
+pub zero-bit-spec : {M : Type 1} → statement M
+zero-bit-spec = tie.close (tie.spec returns returns-2)
