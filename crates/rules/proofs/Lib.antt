@@ -1,3 +1,4 @@
 pub mod Hex
 pub mod Computed
 pub mod Examples
+pub mod Readings

@@ -77,6 +77,14 @@ noneLive = record { present = 0; version = 0; last = 0 }
 unfoldable pub noneGathered : GatheredVersion
 noneGathered = record { present = 0; version = 0; last = 0; held = 0 }
 
+-- where section n of a table is held once it is live, and where it is gathered: "Gathering always uses the other half than
+-- the one set"
+unfoldable pub liveAt : State → Table → (n : ℕ) → ℕ
+liveAt s t n = placeOf (limitOf s) t (heldOf s t .half) n
+
+unfoldable pub gatheredAt : State → Table → (n : ℕ) → ℕ
+gatheredAt s t n = placeOf (limitOf s) t (1 - heldOf s t .half) n
+
 -- "Fresh: nothing live, nothing gathered, and the half set to 1."
 unfoldable pub nothing : Holding
 nothing = record { live = noneLive; gathered = noneGathered; half = 1 }
@@ -102,25 +110,25 @@ isGathered h v = eqb (h .gathered .present) 1 && eqb (h .gathered .version) v
 
 -- ---- 2: "state not well formed"
 
--- version above 31, last above 3; an absent one with a field not zero
+-- refused: version above 31, last above 3; absent with a field not zero
 unfoldable pub liveFormed : (limit : ℕ) → LiveVersion → Bool
 liveFormed limit l =
     cond (eqb (l .present) 1)
     (leb (l .version) 31 && ltb (l .last) limit)
     (eqb (l .present) 0 && eqb (l .version) 0 && eqb (l .last) 0)
 
--- the same, and gathered numbers empty, complete or beyond last
+-- refused: the same, and gathered numbers empty, complete (all of 0 to last) or beyond last (more than that)
 unfoldable pub gatheredFormed : (limit : ℕ) → GatheredVersion → Bool
 gatheredFormed limit g =
     cond (eqb (g .present) 1)
     (leb (g .version) 31 && ltb (g .last) limit && ltb 0 (g .held) && ltb (g .held) (allOf (g .last)))
     (eqb (g .present) 0 && eqb (g .version) 0 && eqb (g .last) 0 && eqb (g .held) 0)
 
--- live and gathered version equal
+-- refused: live and gathered version equal
 unfoldable pub sameVersion : Holding → Bool
 sameVersion h = eqb (h .gathered .present) 1 && isLive h (h .gathered .version)
 
--- half above 1
+-- refused: half above 1
 unfoldable pub holdingFormed : (limit : ℕ) → Holding → Bool
 holdingFormed limit h =
     leb (h .half) 1 && liveFormed limit (h .live) && gatheredFormed limit (h .gathered) && not (sameVersion h)
@@ -203,7 +211,7 @@ offeredAs s (right c) =
     cond (otherMap s c) (record { answer = OtherMap; state = s })
     (stepped s (c .table) (stepOf (limitOf s) (heldOf s (c .table)) (c .revision)))
 
--- 1 and 2 come first; `size` is the length of the store
+-- 1, store shorter than its places, and 2 come first; `size` is the length of the store
 unfoldable pub offered : State → (size : ℕ) → (section : List ℕ) → Offered
 offered s size section =
     cond (ltb size (storeSize (limitOf s))) (record { answer = Refused 1; state = s })
@@ -220,13 +228,9 @@ takesIn Repeat = false
 takesIn (Stored missing) = true
 takesIn (Live v) = true
 
--- "Gathering always uses the other half than the one set"
-unfoldable pub gatheredAt : State → Content → ℕ
-gatheredAt s c = placeOf (limitOf s) (c .table) (1 - heldOf s (c .table) .half) (c .revision .number)
-
 unfoldable pub putAs : State → List ℕ → (section : List ℕ) → Reading → List ℕ
 putAs s store section (wrong n) = store
-putAs s store section (right c) = put store (gatheredAt s c) section
+putAs s store section (right c) = put store (gatheredAt s (c .table) (c .revision .number)) section
 
 -- "Steps 5 and 6 put the section's bytes at the front of its place"; all else stays the same
 unfoldable pub storeAfter : State → List ℕ → (section : List ℕ) → List ℕ

@@ -8,7 +8,7 @@ use lib.Dec.{leb, ltb, eqb}
 use Rattle.rules.specs.Layout.{Numbered}
 use Rattle.rules.specs.Tables.{carrierKhz}
 use Rattle.rules.specs.Section.{Body, carriers, modes, channels, ranges, Reading, wrong, right, readSection}
-use Rattle.rules.specs.Holding.{limitOf, indexOf, placeOf, storeSize, sectionAt, heldOf, wellFormed, otherMap}
+use Rattle.rules.specs.Holding.{limitOf, indexOf, storeSize, sectionAt, heldOf, liveAt, wellFormed, otherMap}
 use Rattle.rules.specs.Search.{first, sections}
 use Rattle.rules.specs.declared.Table.{Table}
 use Rattle.rules.specs.declared.Table.the-variants.{Cds, Mms, Vcm, Dcm}
@@ -37,7 +37,7 @@ liveCount s t = heldOf s t .live .last + 1
 
 -- what the place of section n of a live table reads as
 unfoldable pub liveReading : State → List ℕ → Table → (n : ℕ) → Reading
-liveReading s store t n = readSection (sectionAt store (placeOf (limitOf s) t (heldOf s t .half) n))
+liveReading s store t n = readSection (sectionAt store (liveAt s t n))
 
 -- 16: it reads right as that table, map, version, number and last
 unfoldable pub readsAs : State → Table → (n : ℕ) → Reading → Bool

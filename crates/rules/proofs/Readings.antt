@@ -1,0 +1,137 @@
+-- Where document 01 leaves two ways, the one taken: the entries of docs/DECISIONS.md that an input decides, each on the
+-- shortest input that tells the ways apart, as one collected fact about the rules.
+use Prim.Native.Nat.{ℕ}
+use mathlib.Core.Path.{_≡_, refl}
+use mathlib.Core.Bool.{false}
+use mathlib.Core.List.{[], _∷_, _++_, map}
+use lib.ListN.{length, replicate}
+use Rattle.rules.specs.Section.{check, ask}
+use Rattle.rules.specs.Holding.{noneLive, noneGathered, nothing, fresh, liveFormed, gatheredFormed, offered, gatheredAt}
+use Rattle.rules.specs.Lineup.{text, sectionsOf, lineup}
+use Rattle.rules.specs.declared.Table.the-variants.{Cds}
+use Rattle.rules.specs.declared.Answer.the-variants.{Refused, OtherMap}
+use Rattle.rules.specs.declared.Asked.the-variants as Asked
+use Rattle.rules.proofs.Hex.{hex}
+use Rattle.rules.proofs.Computed.{computed}
+
+pub record Readings : Type 0 where
+  -- A1: medium and subtype of 0xC2 are not there: 8 in the place of 7, before 9
+  pub a1 : check (hex "C2 70 05 00 CB 62 C1 CF") ≡ 8
+  -- A2: the same for 0xC4
+  pub a2 : check (hex "C4 30 05 80 14 AA 64 3D") ≡ 8
+  -- A3: 7 is judged before the rest of a cut header
+  pub a3 : check (hex "C4 30 06 00 20 ED B7 0B 5D") ≡ 7
+  -- A4: the header ends behind the map number and is taken whole: 8 before 9
+  pub a4 : check (hex "C4 70 06 00 00 A4 87 2D E8") ≡ 8
+  -- A5: the head is a unit of its own: 9 of the header before 8 of the head
+  pub a5 : check (hex "C4 70 08 00 00 00 00 4E AF 34 63") ≡ 9
+  -- A6: first index 0 is judged with the header, before the first record
+  pub a6 : check (hex "C2 30 08 00 00 01 01 EF C0 96 6B") ≡ 10
+  -- A7: first index 0 is refused without a record too
+  pub a7 : check (hex "C2 30 0D 00 00 00 01 93 03 E5 00 00 FF 7E 2F E8") ≡ 10
+  -- A8: record count 0 is good
+  pub a8 : check (hex "C2 30 0D 00 01 00 01 93 03 E5 00 00 A4 DF F3 22") ≡ 0
+  -- A9: data length 0 is good
+  pub a9 : check (hex "C4 30 10 00 01 00 00 00 02 00 93 03 E5 00 00 08 A1 EF 3D") ≡ 0
+  -- A10: an index above 255 is judged with the record that passes it
+  pub a10 : check (hex "C2 30 1B 00 FF 02 02 2F 28 00 4D 29 AD 00 2F 08 00 4D 29 AD 00 93 03 E5 00 00 E9 05 48 7F") ≡ 9
+  -- A11: a record is judged before its descriptor count
+  pub a11 : check (hex "C2 30 0D 00 01 01 01 00 00 00 15 18 94 09 28 EF") ≡ 10
+  -- A12: each range byte is judged for itself
+  pub a12 : check (hex "C4 30 0C 00 01 00 00 00 02 05 80 2B 36 E1 79") ≡ 10
+  -- A13: a range that is not defined ends at 4095 too
+  pub a13 : check (hex "C4 30 11 00 01 00 00 0F FF 01 02 93 03 E5 00 00 7A 62 E4 83") ≡ 10
+  -- A14: system 3 is assigned
+  pub a14 : check (hex "C2 30 14 00 01 01 02 3F 08 00 4D 29 AD 00 93 03 E5 00 00 B1 35 81 8E") ≡ 0
+  -- A15: an application channel of transport 1 is judged as any record
+  pub a15 : check (hex "C4 30 1D 00 00 00 00 00 00 00 00 00 00 01 00 03 90 00 07 02 05 00 00 93 03 E5 00 00 90 E4 B3 90") ≡ 10
+  -- A16: symbol rate 0 is good
+  pub a16 : check (hex "C2 30 14 00 01 01 02 2F 08 00 00 00 00 00 93 03 E5 00 00 26 17 19 13") ≡ 0
+  -- A17: spacing 0 is good
+  pub a17 : check (hex "C2 30 13 00 01 01 01 02 00 00 15 18 00 93 03 E5 00 00 C1 33 E8 55") ≡ 0
+  -- A18: 0x93 in a record's list is passed over
+  pub a18 : check (hex "C2 30 15 00 01 01 01 01 00 00 15 18 01 93 00 93 03 E5 00 00 92 26 DF 6D") ≡ 0
+  -- and does not serve where the closing list has none
+  pub a18-none : check (hex "C2 30 13 00 01 01 01 01 00 00 15 18 01 93 03 E5 00 00 D4 2F 70 A8") ≡ 11
+  -- A20: 8 in the closing list comes before 11
+  pub a20 : check (hex "C2 30 14 00 01 00 01 93 03 E5 00 00 93 03 E5 00 00 80 01 81 E6 E7 15") ≡ 8
+  -- A21: a lone byte behind the last descriptor is 8; an empty closing list is 11
+  pub a21 : check (hex "C2 30 0E 00 01 00 01 93 03 E5 00 00 80 5A E0 77 B9") ≡ 8
+  pub a21-empty : check (hex "C2 30 08 00 01 00 01 3C 01 FB 30") ≡ 11
+  -- A22: of byte 3 the low five bits are 6, and before 9
+  pub a22 : check (hex "C2 30 0D 21 01 00 01 93 03 E5 00 00 66 55 6E FE") ≡ 6
+  pub a22-zeros : check (hex "C2 30 0D 20 01 00 01 93 03 E5 00 00 94 55 C4 98") ≡ 9
+  -- A23: all zero bits of a record come before its values
+  pub a23 : check (hex "C4 30 1D 00 00 00 00 00 00 00 00 00 00 01 00 03 12 00 00 02 00 00 01 93 03 E5 00 00 CD 44 28 84") ≡ 9
+  -- A24: a record count that is too large reads the closing list as records
+  pub a24 : check (hex "C2 30 16 00 01 03 02 2F 08 00 4D 29 AD 00 93 03 E5 00 00 80 00 87 B2 9E 18") ≡ 9
+  -- A27: the inverse channel map, subtype 2 of 0xC4, is not named
+  pub a27 : check (hex "C4 30 0D 00 02 00 00 93 03 E5 00 00 43 23 D1 10") ≡ 7
+  -- B2: a section of another map is other map, whatever its last
+  pub b2 : offered (fresh 0) 32768 (hex "C4 30 14 00 00 00 01 00 00 00 00 00 00 00 93 03 E5 00 09 9A DA AE 56") .answer ≡ OtherMap
+  -- B3: and refused where it does not read right
+  pub b3 : offered (fresh 0) 32768 (hex "C4 30 14 00 00 00 01 00 00 00 00 00 00 00 93 03 E5 02 01 1C 20 DD E1") .answer ≡ Refused 11
+  -- B8: the half set is used as it stands where nothing is live
+  pub b8 : gatheredAt (record { map = 0; cds = record { live = noneLive; gathered = noneGathered; half = 0 }; mms = nothing; vcm = nothing; dcm = nothing }) Cds 0 ≡ 4096
+  -- B9: nothing live, and a last that is not zero
+  pub b9 : liveFormed 4 (record { present = 0; version = 0; last = 1 }) ≡ false
+  -- B10: held numbers beyond last
+  pub b10 : gatheredFormed 4 (record { present = 1; version = 5; last = 1; held = 0x11 }) ≡ false
+  -- D3: a last section of one byte is offered as it is
+  pub d3 : sectionsOf (hex "C2") ≡ hex "C2" ∷ []
+  -- D4: L above 1,021 takes 3 + L bytes too
+  pub d4 : map length (sectionsOf (hex "C2 33 FE" ++ replicate 1023 0)) ≡ 1025 ∷ 1 ∷ []
+  -- D5: fewer than two bytes
+  pub d5 : lineup (hex "00") ≡ text "lineup=refused\n"
+  -- D6: L 0 takes three bytes
+  pub d6 : sectionsOf (hex "00 00 00 00 00 00") ≡ hex "00 00 00" ∷ hex "00 00 00" ∷ []
+  -- E1: an empty body is there
+  pub e1 : ask 0x80 (hex "C2 30 0F 00 01 00 01 93 03 E5 00 00 80 00 B0 9C 27 D7") ≡ Asked.There 14 0
+  pub e1-none : ask 0x81 (hex "C2 30 0F 00 01 00 01 93 03 E5 00 00 80 00 B0 9C 27 D7") ≡ Asked.Absent
+  -- E2: asked of a section that does not read right, the refusal
+  pub e2 : ask 0x80 (hex "C2 30 0F") ≡ Asked.Refused 3
+
+pub readings : Readings
+unfolding computed
+readings =
+    record {
+      a1 = refl;
+      a2 = refl;
+      a3 = refl;
+      a4 = refl;
+      a5 = refl;
+      a6 = refl;
+      a7 = refl;
+      a8 = refl;
+      a9 = refl;
+      a10 = refl;
+      a11 = refl;
+      a12 = refl;
+      a13 = refl;
+      a14 = refl;
+      a15 = refl;
+      a16 = refl;
+      a17 = refl;
+      a18 = refl;
+      a18-none = refl;
+      a20 = refl;
+      a21 = refl;
+      a21-empty = refl;
+      a22 = refl;
+      a22-zeros = refl;
+      a23 = refl;
+      a24 = refl;
+      a27 = refl;
+      b2 = refl;
+      b3 = refl;
+      b8 = refl;
+      b9 = refl;
+      b10 = refl;
+      d3 = refl;
+      d4 = refl;
+      d5 = refl;
+      d6 = refl;
+      e1 = refl;
+      e1-none = refl;
+      e2 = refl;
+    }
