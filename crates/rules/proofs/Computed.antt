@@ -6,13 +6,13 @@ use Rattle.rules.specs.Crc.{shift, bitsOf, shiftAll, crcFrom}
 use Rattle.rules.specs.Descriptors.{descriptor, passed, counted, filling, closing, bodies}
 use Rattle.rules.specs.Layout.{numbered, bare, entry, after, records, head}
 use Rattle.rules.specs.Tables.{carriersZeros, carriersOf, inKhz, carrierKhz, carriersFair, cds, modeZeros, modeOf, among, assigned, modeFair, mms, vcmHeadZeros, vcmHeadOf, vcmHead, transportOf, channelZeros, signalOf, channelOf, standardFair, channelFair, vcm, dcmHeadZeros, dcmHeadOf, dcmHead, rangeOf, rangeFair, dcm}
-use Rattle.rules.specs.Section.{mediumAt, named, given, header, mapOf, body, revision, content, lengthOf, fitting, room, whole, read, readSection, checkOf, check, sizeOf, firstOf, askedOf, ask, partOf}
-use Rattle.rules.specs.Holding.{limitOf, tables, indexOf, placeOf, storeSize, sectionAt, put, heldOf, with, noneLive, noneGathered, liveAt, gatheredAt, nothing, fresh, holds, allOf, isLive, isGathered, liveFormed, gatheredFormed, sameVersion, holdingFormed, wellFormed, clashes, known, heldWith, goneLive, gathers, taken, stepOf, hasMap, otherMap, stepped, offeredAs, offered, takesIn, putAs, storeAfter, answerTo, boxAfter, run, answers}
+use Rattle.rules.specs.Section.{lengthOf, mediumAt, named, given, header, mapOf, structure, revision, content, fitting, withoutCrc, whole, read, readSection, checkOf, check, sizeOf, firstOf, askedOf, ask, partOf}
+use Rattle.rules.specs.Holding.{limitOf, tables, indexOf, placeOf, storeSize, sectionAt, put, holdingOf, with, liveAt, gatheredAt, noneLive, noneGathered, freshHolding, fresh, holds, allOf, isLive, isGathered, liveFormed, gatheredFormed, sameVersion, holdingFormed, wellFormed, otherLast, isRepeat, heldWith, goneLive, gathering, liveOrStored, stepOf, hasMap, otherMap, stepped, offeredAs, offered, takesIn, putAs, storeAfter, answerTo, boxAfter, run, answers}
 use Rattle.rules.specs.Search.{first, sections}
 use Rattle.rules.specs.Tuning.{tableLive, allLive, liveCount, liveReading, readsAs, every, placeReads, tableReads, allRead, carriersIn, modesIn, channelsIn, rangesIn, recordsIn, liveSection, liveRecords, plant, covers, isCarrier, isMode, isChannel, isRange, definedBy, defined, needs, found, hidden, tuneSignal, tuneKhz, tuneCarrier, tuneChannel, lookUp, tune}
 use Rattle.rules.specs.Lineup.{text, digits, decimal, field, line, cut, sectionsOf, freshBox, refusals, version, channelLine, channelLines, joined, printed, printedOf, lineup}
 use Rattle.rules.proofs.Hex.{hex}
 
 unfoldable pub computed : Unit {0}
-unfolding unless andThen giving byte from shift bitsOf shiftAll crcFrom descriptor passed counted filling closing bodies numbered bare entry after records head carriersZeros carriersOf inKhz carrierKhz carriersFair cds modeZeros modeOf among assigned modeFair mms vcmHeadZeros vcmHeadOf vcmHead transportOf channelZeros signalOf channelOf standardFair channelFair vcm dcmHeadZeros dcmHeadOf dcmHead rangeOf rangeFair dcm mediumAt named given header mapOf body revision content lengthOf fitting room whole read readSection checkOf check sizeOf firstOf askedOf ask partOf limitOf tables indexOf placeOf storeSize sectionAt put heldOf with noneLive noneGathered liveAt gatheredAt nothing fresh holds allOf isLive isGathered liveFormed gatheredFormed sameVersion holdingFormed wellFormed clashes known heldWith goneLive gathers taken stepOf hasMap otherMap stepped offeredAs offered takesIn putAs storeAfter answerTo boxAfter run answers first sections tableLive allLive liveCount liveReading readsAs every placeReads tableReads allRead carriersIn modesIn channelsIn rangesIn recordsIn liveSection liveRecords plant covers isCarrier isMode isChannel isRange definedBy defined needs found hidden tuneSignal tuneKhz tuneCarrier tuneChannel lookUp tune text digits decimal field line cut sectionsOf freshBox refusals version channelLine channelLines joined printed printedOf lineup ones onesIn hex
+unfolding unless andThen giving byte from shift bitsOf shiftAll crcFrom descriptor passed counted filling closing bodies numbered bare entry after records head carriersZeros carriersOf inKhz carrierKhz carriersFair cds modeZeros modeOf among assigned modeFair mms vcmHeadZeros vcmHeadOf vcmHead transportOf channelZeros signalOf channelOf standardFair channelFair vcm dcmHeadZeros dcmHeadOf dcmHead rangeOf rangeFair dcm lengthOf mediumAt named given header mapOf structure revision content fitting withoutCrc whole read readSection checkOf check sizeOf firstOf askedOf ask partOf limitOf tables indexOf placeOf storeSize sectionAt put holdingOf with liveAt gatheredAt noneLive noneGathered freshHolding fresh holds allOf isLive isGathered liveFormed gatheredFormed sameVersion holdingFormed wellFormed otherLast isRepeat heldWith goneLive gathering liveOrStored stepOf hasMap otherMap stepped offeredAs offered takesIn putAs storeAfter answerTo boxAfter run answers first sections tableLive allLive liveCount liveReading readsAs every placeReads tableReads allRead carriersIn modesIn channelsIn rangesIn recordsIn liveSection liveRecords plant covers isCarrier isMode isChannel isRange definedBy defined needs found hidden tuneSignal tuneKhz tuneCarrier tuneChannel lookUp tune text digits decimal field line cut sectionsOf freshBox refusals version channelLine channelLines joined printed printedOf lineup ones onesIn hex
 computed = tt

@@ -1,18 +1,49 @@
--- Where document 01 leaves two ways, the one taken: the entries of docs/DECISIONS.md that an input decides, each on the
--- shortest input that tells the ways apart, as one collected fact about the rules.
+-- Where document 01 can be read in two ways, the one taken: the entries marked in docs/DECISIONS.md, each on an input that
+-- tells the ways apart, as one collected fact about the rules.
 use Prim.Native.Nat.{ℕ}
+use Prim.Native.String.{String}
 use mathlib.Core.Path.{_≡_, refl}
 use mathlib.Core.Bool.{false}
-use mathlib.Core.List.{[], _∷_, _++_, map}
+use mathlib.Core.List.{List, [], _∷_, _++_, map}
 use lib.ListN.{length, replicate}
+use Rattle.rules.specs.Layout.{Numbered}
+use Rattle.rules.specs.Tables.{carriersOf, modeOf, channelOf, rangeOf}
 use Rattle.rules.specs.Section.{check, ask}
-use Rattle.rules.specs.Holding.{noneLive, noneGathered, nothing, fresh, liveFormed, gatheredFormed, offered, gatheredAt}
-use Rattle.rules.specs.Lineup.{text, sectionsOf, lineup}
+use Rattle.rules.specs.Holding.{noneLive, noneGathered, freshHolding, fresh, liveFormed, gatheredFormed, offered, gatheredAt}
+use Rattle.rules.specs.Tuning.{Plant, lookUp, tune}
+use Rattle.rules.specs.Lineup.{text, sectionsOf, refusals, channelLine, lineup}
 use Rattle.rules.specs.declared.Table.the-variants.{Cds}
-use Rattle.rules.specs.declared.Answer.the-variants.{Refused, OtherMap}
+use Rattle.rules.specs.declared.Answer.the-variants.{Refused, OtherMap, Repeat}
 use Rattle.rules.specs.declared.Asked.the-variants as Asked
+use Rattle.rules.specs.declared.Carriers.{Carriers}
+use Rattle.rules.specs.declared.Mode.{Mode}
+use Rattle.rules.specs.declared.Channel.{Channel}
+use Rattle.rules.specs.declared.Range.{Range}
+use Rattle.rules.specs.declared.Tuned.the-variants as Tuned
 use Rattle.rules.proofs.Hex.{hex}
 use Rattle.rules.proofs.Computed.{computed}
+
+-- plants of a few records, with the mode of C12 at index 1
+abbrev pub c12 : Mode
+c12 = modeOf (hex "2F 08 00 4D 29 AD")
+
+abbrev pub carrier : (index : ℕ) → String → List (Numbered Carriers)
+carrier index r = record { index = index; what = carriersOf (hex r) } ∷ []
+
+abbrev pub channel : String → List (Numbered Channel)
+channel r = record { index = 0; what = channelOf (hex r) } ∷ []
+
+abbrev pub range : (first : ℕ) → String → List (Numbered Range)
+range first r = record { index = first; what = rangeOf (hex r) } ∷ []
+
+abbrev pub c1 : List (Numbered Carriers)
+c1 = carrier 1 "02 80 30 81 C8"
+
+abbrev pub c9 : List (Numbered Channel)
+c9 = channel "00 03 00 12 34 02 00 03 01"
+
+abbrev pub plantOf : List (Numbered Carriers) → List (Numbered Channel) → List (Numbered Range) → Plant
+plantOf cs ns rs = record { carriers = cs; modes = record { index = 1; what = c12 } ∷ []; channels = ns; ranges = rs }
 
 pub record Readings : Type 0 where
   -- A1: medium and subtype of 0xC2 are not there: 8 in the place of 7, before 9
@@ -33,8 +64,9 @@ pub record Readings : Type 0 where
   pub a8 : check (hex "C2 30 0D 00 01 00 01 93 03 E5 00 00 A4 DF F3 22") ≡ 0
   -- A9: data length 0 is good
   pub a9 : check (hex "C4 30 10 00 01 00 00 00 02 00 93 03 E5 00 00 08 A1 EF 3D") ≡ 0
-  -- A10: an index above 255 is judged with the record that passes it
-  pub a10 : check (hex "C2 30 1B 00 FF 02 02 2F 28 00 4D 29 AD 00 2F 08 00 4D 29 AD 00 93 03 E5 00 00 E9 05 48 7F") ≡ 9
+  -- A10: an index above 255 is judged with the record that passes it: behind its 8, and before the 9 of a later one
+  pub a10 : check (hex "C2 30 11 00 FF 02 02 2F 08 00 4D 29 AD 00 2F 08 7B DB 14 38") ≡ 8
+  pub a10-later : check (hex "C2 30 1F 00 FF 03 01 01 00 00 15 18 00 01 00 00 15 18 00 01 40 00 15 18 00 93 03 E5 00 00 AC 55 7D 36") ≡ 10
   -- A11: a record is judged before its descriptor count
   pub a11 : check (hex "C2 30 0D 00 01 01 01 00 00 00 15 18 94 09 28 EF") ≡ 10
   -- A12: each range byte is judged for itself
@@ -58,7 +90,7 @@ pub record Readings : Type 0 where
   -- A21: a lone byte behind the last descriptor is 8; an empty closing list is 11
   pub a21 : check (hex "C2 30 0E 00 01 00 01 93 03 E5 00 00 80 5A E0 77 B9") ≡ 8
   pub a21-empty : check (hex "C2 30 08 00 01 00 01 3C 01 FB 30") ≡ 11
-  -- A22: of byte 3 the low five bits are 6, and before 9
+  -- A22: of byte 3 the five low bits are judged as 6, before its zero bits, 9
   pub a22 : check (hex "C2 30 0D 21 01 00 01 93 03 E5 00 00 66 55 6E FE") ≡ 6
   pub a22-zeros : check (hex "C2 30 0D 20 01 00 01 93 03 E5 00 00 94 55 C4 98") ≡ 9
   -- A23: all zero bits of a record come before its values
@@ -67,16 +99,37 @@ pub record Readings : Type 0 where
   pub a24 : check (hex "C2 30 16 00 01 03 02 2F 08 00 4D 29 AD 00 93 03 E5 00 00 80 00 87 B2 9E 18") ≡ 9
   -- A27: the inverse channel map, subtype 2 of 0xC4, is not named
   pub a27 : check (hex "C4 30 0D 00 02 00 00 93 03 E5 00 00 43 23 D1 10") ≡ 7
+  -- B1: only answers with a number are counted as refused
+  pub b1 : refusals (OtherMap ∷ Repeat ∷ Refused 3 ∷ []) ≡ 1
   -- B2: a section of another map is other map, whatever its last
   pub b2 : offered (fresh 0) 32768 (hex "C4 30 14 00 00 00 01 00 00 00 00 00 00 00 93 03 E5 00 09 9A DA AE 56") .answer ≡ OtherMap
   -- B3: and refused where it does not read right
   pub b3 : offered (fresh 0) 32768 (hex "C4 30 14 00 00 00 01 00 00 00 00 00 00 00 93 03 E5 02 01 1C 20 DD E1") .answer ≡ Refused 11
   -- B8: the half set is used as it stands where nothing is live
-  pub b8 : gatheredAt (record { map = 0; cds = record { live = noneLive; gathered = noneGathered; half = 0 }; mms = nothing; vcm = nothing; dcm = nothing }) Cds 0 ≡ 4096
+  pub b8 : gatheredAt (record { map = 0; cds = record { live = noneLive; gathered = noneGathered; half = 0 }; mms = freshHolding; vcm = freshHolding; dcm = freshHolding }) Cds 0 ≡ 4096
   -- B9: nothing live, and a last that is not zero
   pub b9 : liveFormed 4 (record { present = 0; version = 0; last = 1 }) ≡ false
   -- B10: held numbers beyond last
   pub b10 : gatheredFormed 4 (record { present = 1; version = 5; last = 1; held = 0x11 }) ≡ false
+  -- T1: the first covering range decides, also where it says not defined
+  pub t1 : lookUp (plantOf c1 c9 (range 3 "01" ++ range 3 "81")) 3 ≡ Tuned.Refused 17
+  -- T3: the first carrier of an index ends the search, also where it is out of range
+  pub t3 : lookUp (plantOf (carrier 2 "01 00 00 15 17" ++ c1) c9 (range 3 "81")) 3 ≡ Tuned.Refused 20
+  -- T4: so does the first record of a channel, here with carrier reference 0 (T9)
+  pub t4 : lookUp (plantOf c1 (channel "00 03 00 12 34 00 00 03 01" ++ c9) (range 3 "81")) 3 ≡ Tuned.Refused 19
+  -- T6: an application channel has to be defined too
+  pub t6 : lookUp (plantOf c1 (channel "00 03 80 00 07 02 00 03 01") (range 4 "81")) 3 ≡ Tuned.Refused 17
+  -- T7: a hidden channel tunes
+  pub t7 : lookUp (plantOf c1 (channel "00 03 01 12 34 02 00 03 01") (range 3 "81")) 3 ≡ Tuned.Digital 1 0 63000 3 c12
+  -- T10: programme 0 tunes
+  pub t10 : lookUp (plantOf c1 (channel "00 03 00 12 34 02 00 00 01") (range 3 "81")) 3 ≡ Tuned.Digital 0 0 63000 0 c12
+  -- T16: a frequency out of range comes before a mode that is missing
+  pub t16 : lookUp (plantOf (carrier 2 "01 00 00 15 17") (channel "00 03 00 12 34 02 00 03 00") (range 3 "81")) 3 ≡ Tuned.Refused 20
+  -- T17: a fresh box answers 14 before 15
+  pub t17 : map (tune (fresh 0) (replicate 32768 0)) (4095 ∷ 4096 ∷ []) ≡ Tuned.Refused 15 ∷ Tuned.Refused 14 ∷ []
+  -- D1: the three kinds have hidden and path (digital: C1 to C9)
+  pub d1 : channelLine 3 (Tuned.Application 0 1 7) ≡ text "channel=3 kind=application hidden=0 path=1 application=7\n" ∷ []
+  pub d1-analogue : channelLine 8 (Tuned.Analogue 1 0 63000 4 1) ≡ text "channel=8 kind=analogue hidden=1 path=0 khz=63000 standard=4 scrambled=1\n" ∷ []
   -- D3: a last section of one byte is offered as it is
   pub d3 : sectionsOf (hex "C2") ≡ hex "C2" ∷ []
   -- D4: L above 1,021 takes 3 + L bytes too
@@ -105,6 +158,7 @@ readings =
       a8 = refl;
       a9 = refl;
       a10 = refl;
+      a10-later = refl;
       a11 = refl;
       a12 = refl;
       a13 = refl;
@@ -122,11 +176,22 @@ readings =
       a23 = refl;
       a24 = refl;
       a27 = refl;
+      b1 = refl;
       b2 = refl;
       b3 = refl;
       b8 = refl;
       b9 = refl;
       b10 = refl;
+      t1 = refl;
+      t3 = refl;
+      t4 = refl;
+      t6 = refl;
+      t7 = refl;
+      t10 = refl;
+      t16 = refl;
+      t17 = refl;
+      d1 = refl;
+      d1-analogue = refl;
       d3 = refl;
       d4 = refl;
       d5 = refl;

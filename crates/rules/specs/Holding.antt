@@ -1,6 +1,6 @@
 -- Document 01, "Holding and going live", and of "Numbers of refusal" 1, 2, 12 and 13: places of the store, when a state is
 -- well formed, and what an offered section does to state and store.
--- What speaks of gathering and of places takes the limit of sections to a table.
+-- How many sections a table may have is an argument, `limit`: document 01 has four, numbers 0 to 3.
 use Prim.Native.Nat.{ℕ, _+_, _-_, _*_, _/_, _%_, _^_}
 use mathlib.Core.Bool.{Bool, true, false, cond, not, _&&_, _||_}
 use mathlib.Core.List.{List, [], _∷_, _++_}
@@ -25,7 +25,7 @@ use Rattle.rules.specs.declared.Offered.{Offered}
 -- ---- "The store is lent: 32 places of 1,024 bytes, tables in the order CDS, MMS, VCM, DCM, each with half 0 then half 1,
 -- each half with sections 0 to 3."
 
--- sections to a table: four, for every box
+-- four, for every box
 unfoldable pub limitOf : State → ℕ
 limitOf s = 4
 
@@ -42,34 +42,43 @@ indexOf Dcm = 3
 unfoldable pub placeOf : (limit : ℕ) → Table → (half n : ℕ) → ℕ
 placeOf limit t half n = ((indexOf t * 2 + half) * limit + n) * 1024
 
--- bytes of all places: a shorter store is refused as 1
+-- refusal 1: a store shorter than all places
 unfoldable pub storeSize : (limit : ℕ) → ℕ
 storeSize limit = tables * 2 * limit * 1024
 
--- the section in a place: its first 3 + L bytes
-unfoldable pub sectionAt : List ℕ → ℕ → List ℕ
+-- the section in the place that begins there: its first 3 + L bytes
+unfoldable pub sectionAt : List ℕ → (at : ℕ) → List ℕ
 sectionAt store at =
     let place = take 1024 (from store at) in
     take (3 + lengthOf place) place
 
--- the store with bytes put at a place's front, and all else the same
-unfoldable pub put : List ℕ → ℕ → List ℕ → List ℕ
+-- a section's bytes put at the front of a place: the rest of it, all other places and any bytes behind the last place stay
+unfoldable pub put : List ℕ → (at : ℕ) → (section : List ℕ) → List ℕ
 put store at section = take at store ++ section ++ drop (at + length section) store
 
--- ---- "The state knows its map number, given at the start, and for each table .."
+-- ---- "The state knows its map number, given at the start, and for each table: live version and last number, or none; the
+-- version being gathered with its last number and the numbers held, or none; and which half is live."
 
-unfoldable pub heldOf : State → Table → Holding
-heldOf s Cds = s .cds
-heldOf s Mms = s .mms
-heldOf s Vcm = s .vcm
-heldOf s Dcm = s .dcm
+unfoldable pub holdingOf : State → Table → Holding
+holdingOf s Cds = s .cds
+holdingOf s Mms = s .mms
+holdingOf s Vcm = s .vcm
+holdingOf s Dcm = s .dcm
 
--- the state with another holding for one table, and the others the same
+-- the state with another holding for one table, and the others as they were
 unfoldable pub with : State → Table → Holding → State
 with s Cds h = record { map = s .map; cds = h; mms = s .mms; vcm = s .vcm; dcm = s .dcm }
 with s Mms h = record { map = s .map; cds = s .cds; mms = h; vcm = s .vcm; dcm = s .dcm }
 with s Vcm h = record { map = s .map; cds = s .cds; mms = s .mms; vcm = h; dcm = s .dcm }
 with s Dcm h = record { map = s .map; cds = s .cds; mms = s .mms; vcm = s .vcm; dcm = h }
+
+-- the place of section n in the live half; and in the half that gathering uses, "always .. the other half than the one set,
+-- in a given state where nothing is live too"
+unfoldable pub liveAt : State → Table → (n : ℕ) → ℕ
+liveAt s t n = placeOf (limitOf s) t (holdingOf s t .half) n
+
+unfoldable pub gatheredAt : State → Table → (n : ℕ) → ℕ
+gatheredAt s t n = placeOf (limitOf s) t (1 - holdingOf s t .half) n
 
 unfoldable pub noneLive : LiveVersion
 noneLive = record { present = 0; version = 0; last = 0 }
@@ -77,24 +86,15 @@ noneLive = record { present = 0; version = 0; last = 0 }
 unfoldable pub noneGathered : GatheredVersion
 noneGathered = record { present = 0; version = 0; last = 0; held = 0 }
 
--- where section n of a table is held once it is live, and where it is gathered: "Gathering always uses the other half than
--- the one set"
-unfoldable pub liveAt : State → Table → (n : ℕ) → ℕ
-liveAt s t n = placeOf (limitOf s) t (heldOf s t .half) n
-
-unfoldable pub gatheredAt : State → Table → (n : ℕ) → ℕ
-gatheredAt s t n = placeOf (limitOf s) t (1 - heldOf s t .half) n
-
 -- "Fresh: nothing live, nothing gathered, and the half set to 1."
-unfoldable pub nothing : Holding
-nothing = record { live = noneLive; gathered = noneGathered; half = 1 }
+unfoldable pub freshHolding : Holding
+freshHolding = record { live = noneLive; gathered = noneGathered; half = 1 }
 
 unfoldable pub fresh : (map : ℕ) → State
-fresh map = record { map = map; cds = nothing; mms = nothing; vcm = nothing; dcm = nothing }
+fresh map = record { map = map; cds = freshHolding; mms = freshHolding; vcm = freshHolding; dcm = freshHolding }
 
--- ---- sets of section numbers, as the ones of a number
+-- ---- the numbers held, as bits: bit n is section n
 
--- n is held
 unfoldable pub holds : (held n : ℕ) → Bool
 holds held n = eqb (held / 2 ^ n % 2) 1
 
@@ -102,33 +102,35 @@ holds held n = eqb (held / 2 ^ n % 2) 1
 unfoldable pub allOf : (last : ℕ) → ℕ
 allOf last = 2 ^ (last + 1) - 1
 
-unfoldable pub isLive : Holding → ℕ → Bool
+-- ---- "Versions are compared for equality only; 0 after 31 is nothing special."
+
+unfoldable pub isLive : Holding → (v : ℕ) → Bool
 isLive h v = eqb (h .live .present) 1 && eqb (h .live .version) v
 
-unfoldable pub isGathered : Holding → ℕ → Bool
+unfoldable pub isGathered : Holding → (v : ℕ) → Bool
 isGathered h v = eqb (h .gathered .present) 1 && eqb (h .gathered .version) v
 
--- ---- 2: "state not well formed"
+-- ---- refusal 2: "state not well formed". Each definition says what is good; `present` is 1, or 0 for none.
 
--- refused: version above 31, last above 3; absent with a field not zero
+-- refused: version above 31, last above 3; an absent one with a field not zero
 unfoldable pub liveFormed : (limit : ℕ) → LiveVersion → Bool
 liveFormed limit l =
     cond (eqb (l .present) 1)
     (leb (l .version) 31 && ltb (l .last) limit)
     (eqb (l .present) 0 && eqb (l .version) 0 && eqb (l .last) 0)
 
--- refused: the same, and gathered numbers empty, complete (all of 0 to last) or beyond last (more than that)
+-- refused: the same; gathered numbers empty, complete, or beyond last, which makes them a number above all of 0 to last
 unfoldable pub gatheredFormed : (limit : ℕ) → GatheredVersion → Bool
 gatheredFormed limit g =
     cond (eqb (g .present) 1)
     (leb (g .version) 31 && ltb (g .last) limit && ltb 0 (g .held) && ltb (g .held) (allOf (g .last)))
     (eqb (g .present) 0 && eqb (g .version) 0 && eqb (g .last) 0 && eqb (g .held) 0)
 
--- refused: live and gathered version equal
+-- live and gathered version equal
 unfoldable pub sameVersion : Holding → Bool
 sameVersion h = eqb (h .gathered .present) 1 && isLive h (h .gathered .version)
 
--- refused: half above 1
+-- refused: half above 1; "the half may be either" where nothing is live
 unfoldable pub holdingFormed : (limit : ℕ) → Holding → Bool
 holdingFormed limit h =
     leb (h .half) 1 && liveFormed limit (h .live) && gatheredFormed limit (h .gathered) && not (sameVersion h)
@@ -142,21 +144,21 @@ wellFormed s =
 
 -- ---- "For a section (v, n, last) that reads right, in this order": steps 2 to 6, on the holding of its table
 
--- 3: v live or being gathered with a different last
-unfoldable pub clashes : Holding → Revision → Bool
-clashes h r =
+-- step 3: v live or being gathered with a different last
+unfoldable pub otherLast : Holding → Revision → Bool
+otherLast h r =
     (isLive h (r .version) && not (eqb (h .live .last) (r .last)))
     || (isGathered h (r .version) && not (eqb (h .gathered .last) (r .last)))
 
--- 4: v live, or n already held for the gathered v
-unfoldable pub known : Holding → Revision → Bool
-known h r = isLive h (r .version) || (isGathered h (r .version) && holds (h .gathered .held) (r .number))
+-- step 4: v live, or n already held for the gathered v; "the first one held stays"
+unfoldable pub isRepeat : Holding → Revision → Bool
+isRepeat h r = isLive h (r .version) || (isGathered h (r .version) && holds (h .gathered .held) (r .number))
 
--- 5: v not being gathered: what was gathered is dropped, v begins with n alone; else n joins
+-- step 5: v not being gathered: what was gathered is dropped, v begins with n alone; else n joins
 unfoldable pub heldWith : Holding → Revision → ℕ
 heldWith h r = cond (isGathered h (r .version)) (bitOr (h .gathered .held) (2 ^ r .number)) (2 ^ r .number)
 
--- 6: v is live, gathering is empty, halves change roles
+-- step 6: v is live, gathering is empty, halves change roles
 unfoldable pub goneLive : Holding → Revision → Holding
 goneLive h r =
     record {
@@ -165,28 +167,29 @@ goneLive h r =
       half = 1 - h .half;
     }
 
--- 6: v is gathered, and these numbers of it are held
-unfoldable pub gathers : Holding → Revision → (held : ℕ) → Holding
-gathers h r held =
+-- step 6: v is being gathered, and these numbers of it are held
+unfoldable pub gathering : Holding → Revision → (held : ℕ) → Holding
+gathering h r held =
     record {
       live = h .live;
       gathered = record { present = 1; version = r .version; last = r .last; held = held };
       half = h .half;
     }
 
--- 6: if all of 0 to last are held: live, with v; else stored, with how many sections are still missing
-unfoldable pub taken : Holding → Revision → (held : ℕ) → Stepped
-taken h r held =
+-- step 6: if all of 0 to last are held: live, with v; else stored, with how many sections are still missing
+unfoldable pub liveOrStored : Holding → Revision → (held : ℕ) → Stepped
+liveOrStored h r held =
     cond (eqb held (allOf (r .last)))
     (record { answer = Live (r .version); holding = goneLive h r })
-    (record { answer = Stored (r .last + 1 - ones held); holding = gathers h r held })
+    (record { answer = Stored (r .last + 1 - ones held); holding = gathering h r held })
 
+-- step 2: last above 3: refusal 12; step 3: refusal 13; step 4: repeat; steps 5 and 6
 unfoldable pub stepOf : (limit : ℕ) → Holding → Revision → Stepped
 stepOf limit h r =
     cond (leb limit (r .last)) (record { answer = Refused 12; holding = h })
-    (cond (clashes h r) (record { answer = Refused 13; holding = h })
-    (cond (known h r) (record { answer = Repeat; holding = h })
-    (taken h r (heldWith h r))))
+    (cond (otherLast h r) (record { answer = Refused 13; holding = h })
+    (cond (isRepeat h r) (record { answer = Repeat; holding = h })
+    (liveOrStored h r (heldWith h r))))
 
 -- ---- an offer: what it answers, and the state after it
 
@@ -201,7 +204,7 @@ hasMap Dcm = true
 unfoldable pub otherMap : State → Content → Bool
 otherMap s c = hasMap (c .table) && not (eqb (c .map) (s .map))
 
--- the answer with the state of that table stepped, and the others the same
+-- the answer, and the state in which that table's holding has moved
 unfoldable pub stepped : State → Table → Stepped → Offered
 stepped s t r = record { answer = r .answer; state = with s t (r .holding) }
 
@@ -209,9 +212,9 @@ unfoldable pub offeredAs : State → Reading → Offered
 offeredAs s (wrong n) = record { answer = Refused n; state = s }
 offeredAs s (right c) =
     cond (otherMap s c) (record { answer = OtherMap; state = s })
-    (stepped s (c .table) (stepOf (limitOf s) (heldOf s (c .table)) (c .revision)))
+    (stepped s (c .table) (stepOf (limitOf s) (holdingOf s (c .table)) (c .revision)))
 
--- 1, store shorter than its places, and 2 come first; `size` is the length of the store
+-- refusals 1 and 2 come first; `size` is the length of the store
 unfoldable pub offered : State → (size : ℕ) → (section : List ℕ) → Offered
 offered s size section =
     cond (ltb size (storeSize (limitOf s))) (record { answer = Refused 1; state = s })
@@ -220,7 +223,7 @@ offered s size section =
 
 -- ---- an offer: the store after it
 
--- steps 5 and 6
+-- the answers of steps 5 and 6; "refusals, other map and repeat leave state and store untouched"
 unfoldable pub takesIn : Answer → Bool
 takesIn (Refused n) = false
 takesIn OtherMap = false
@@ -232,12 +235,12 @@ unfoldable pub putAs : State → List ℕ → (section : List ℕ) → Reading �
 putAs s store section (wrong n) = store
 putAs s store section (right c) = put store (gatheredAt s (c .table) (c .revision .number)) section
 
--- "Steps 5 and 6 put the section's bytes at the front of its place"; all else stays the same
+-- "Steps 5 and 6 put the section's bytes at the front of its place"
 unfoldable pub storeAfter : State → List ℕ → (section : List ℕ) → List ℕ
 storeAfter s store section =
     cond (takesIn (offered s (length store) section .answer)) (putAs s store section (readSection section)) store
 
--- ---- a run of offers
+-- ---- a run of offers to one box, which is a state and the store lent with it
 
 pub record Box : Type 0 where
   pub state : State

@@ -1,5 +1,6 @@
--- Document 01, "Bytes of a section" and "Order": a layout is data. The records of the four tables and the heads of VCM
--- and DCM differ in what stands here and in nothing else; that each is taken whole, 8 before 9 before 10, is said once.
+-- Document 01, "Bytes of a section" and "Numbers of refusal": a layout is data. The records of the four tables and the
+-- heads of VCM and DCM differ in what stands here and in nothing else; that each is taken whole, 8 before 9 before 10, and
+-- that 8 stands for the check of a field that isn't there, is said once for all of them. (The header: Section.antt.)
 use Prim.Native.Nat.{ℕ, zero, suc, _+_}
 use mathlib.Core.Bool.{Bool}
 use mathlib.Core.List.{List, [], _∷_}
@@ -22,7 +23,8 @@ pub record Layout (R : Type 0) : Type 0 where
   -- a descriptor count and descriptors follow it
   pub described : Bool
 
--- what a record says, with the first index that it takes
+-- what a record says, with the first index that it takes; for a range byte that is its first channel, and a channel
+-- record, which takes none, has 0
 pub record Numbered (R : Type 0) : Type 0 where
   pub index : ℕ
   pub what : R
@@ -44,11 +46,11 @@ module _ {R : Type 0} (l : Layout R) where
   unfoldable pub entry : ℕ → List ℕ → Got (Numbered R)
   entry index bs = andThen (bare index bs) (λ r rest. giving (λ x. r) (counted (l .described) rest))
 
-  -- the index behind it
+  -- the index behind those that it takes
   unfoldable pub after : Numbered R → ℕ
   after r = r .index + l .takes (r .what)
 
-  -- so many records, the first at an index
+  -- so many records: each counts on from the one before it, the first from an index
   unfoldable pub records : ℕ → ℕ → List ℕ → Got (List (Numbered R))
   records zero index bs = got [] bs
   records (suc n) index bs = andThen (entry index bs) (λ r rest. giving (λ rs. r ∷ rs) (records n (after r) rest))

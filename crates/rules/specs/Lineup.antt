@@ -28,7 +28,7 @@ unfoldable pub digits : (most n : ℕ) → List ℕ
 digits zero n = (48 + n % 10) ∷ []
 digits (suc most) n = cond (ltb n 10) ((48 + n) ∷ []) (digits most (n / 10) ++ ((48 + n % 10) ∷ []))
 
--- every number of 64 bits has at most 20
+-- "all numbers decimal"; every number of 64 bits has at most 20 digits
 unfoldable pub decimal : ℕ → List ℕ
 decimal n = digits 19 n
 
@@ -42,17 +42,17 @@ line key value = text key ++ value ++ text "\n"
 -- ---- the input: "two bytes of map number, then sections back to back, each taking 3 + L bytes whatever L says; an
 -- unfinished last one is offered as it is"
 
--- at most so many sections
+-- the sections, at most so many; of a last one that is cut `take` takes what is there
 unfoldable pub cut : (most : ℕ) → List ℕ → List (List ℕ)
 cut zero bs = []
 cut (suc most) bs =
     cond (eqb (length bs) 0) [] (take (3 + lengthOf bs) bs ∷ cut most (from bs (3 + lengthOf bs)))
 
--- there are never more sections than bytes
+-- there are never more sections than bytes, so the bound is never met
 unfoldable pub sectionsOf : List ℕ → List (List ℕ)
 sectionsOf bs = cut (length bs) bs
 
--- a fresh box, with a store of zero bytes
+-- a fresh box; its store is lent as zero bytes, which no answer depends on
 unfoldable pub freshBox : (map : ℕ) → Box
 freshBox map = record { state = fresh map; store = replicate (storeSize (limitOf (fresh map))) 0 }
 
@@ -110,7 +110,8 @@ unfoldable pub joined : List (List ℕ) → List ℕ
 joined [] = []
 joined (l ∷ ls) = l ++ joined ls
 
--- of the box at the end, the number of sections offered and the number of refusals
+-- "It prints key=value lines in this order: lineup=1, map, sections (offered), refused, cds, mms, vcm, dcm (live version or
+-- none), channels (those that tune or are applications), then one line each, ascending."
 unfoldable pub printed : Box → (sections refused : ℕ) → List ℕ
 printed b sections refused =
     let lines = channelLines (tune (b .state) (b .store)) 4096 0 in

@@ -1,5 +1,6 @@
 -- Document 01, "Bytes of a section" and "Numbers of refusal", 3 to 11: what one section reads as, or the number of its
--- refusal; what the C side asks; and the question for a descriptor.
+-- refusal; what the C side asks; and the question for a descriptor. Sections come whole, not as transport packets; what is
+-- not one of the four tables is refused by 4 or 7.
 use Prim.Native.Nat.{ℕ, _+_, _-_, _*_, _/_, _%_}
 use mathlib.Core.Bool.{Bool, cond, _&&_, _||_}
 use mathlib.Core.List.{List, [], _∷_}
@@ -23,26 +24,33 @@ use Rattle.rules.specs.declared.Revision.{Revision}
 use Rattle.rules.specs.declared.Asked.{Asked}
 use Rattle.rules.specs.declared.Asked.the-variants as Asked
 
--- ---- The header, seven bytes: table number; length; protocol version; then
--- 0xC2: first index, record count, medium (4) and subtype (4); 0xC4: medium (4) and subtype (4), map number (16).
+-- ---- The header, seven bytes. Byte 0 is the table number; then 2 zero bits, 2 reserved bits, 12 bits of section length L;
+-- byte 3: 3 zero bits, 5 bits protocol version. 0xC2: first index, record count, then 4 bits medium and 4 bits subtype.
+-- 0xC4: 4 bits medium, 4 bits subtype, 16 bits map number.
 
--- where medium and subtype stand
+-- L counts all that follows, CRC included
+unfoldable pub lengthOf : List ℕ → ℕ
+lengthOf s = byte 1 s % 16 * 256 + byte 2 s
+
+-- the byte of medium and subtype
 unfoldable pub mediumAt : List ℕ → ℕ
 mediumAt bs = cond (eqb (byte 0 bs) 0xC2) 6 4
 
--- the table of a table number with the byte of medium and subtype: medium 0, and a subtype that is named
-unfoldable pub named : ℕ → ℕ → Option Table
-named number medium =
+-- the table that a table number and the byte of medium and subtype name: medium 0, and CDS and MMS are 0xC2, subtypes 1
+-- and 2; VCM and DCM are 0xC4, subtypes 0 and 1
+unfoldable pub named : (number mediumAndSubtype : ℕ) → Option Table
+named number mediumAndSubtype =
     cond (eqb number 0xC2)
-    (cond (eqb medium 0x01) (some Cds) (cond (eqb medium 0x02) (some Mms) none))
-    (cond (eqb medium 0x00) (some Vcm) (cond (eqb medium 0x01) (some Dcm) none))
+    (cond (eqb mediumAndSubtype 0x01) (some Cds) (cond (eqb mediumAndSubtype 0x02) (some Mms) none))
+    (cond (eqb mediumAndSubtype 0x00) (some Vcm) (cond (eqb mediumAndSubtype 0x01) (some Dcm) none))
 
+-- the refusal, where there is none
 unfoldable pub given : {A B : Type 0} → Option A → ℕ → (A → Got B) → Got B
 given none n f = refused n
 given (some a) n f = f a
 
--- of the section without its CRC: 7, or 8 where medium and subtype aren't there; then the header whole, the zero bits of
--- bytes 1 and 3, and first index 0
+-- of the section without its CRC: refusal 7, or 8 where medium and subtype aren't there; then the header whole, "zero bits of
+-- bytes 1 and 3 come after 7", and first index 0
 unfoldable pub header : List ℕ → Got Table
 header bs =
     unless (ltb (mediumAt bs) (length bs)) 8
@@ -52,31 +60,35 @@ header bs =
     (unless (eqb (byte 0 bs) 0xC4 || ltb 0 (byte 4 bs)) 10
     (got t (from bs 7))))))
 
--- the map number of 0xC4; 0xC2 has none
+-- the map number of 0xC4; 0xC2 has none, and 0 stands for it
 unfoldable pub mapOf : List ℕ → ℕ
 mapOf bs = cond (eqb (byte 0 bs) 0xC4) (word 5 bs) 0
 
--- ---- A table's own part of a section: first index or head, and the records
+-- ---- The structure behind the header: the records of 0xC2, with first index; the head and the records of 0xC4
 
-pub data Body : Type 0 where
-  carriers : (first : ℕ) → List (Numbered Carriers) → Body
-  modes : (first : ℕ) → List (Numbered Mode) → Body
-  channels : VcmHead → List (Numbered Channel) → Body
-  ranges : DcmHead → List (Numbered Range) → Body
+pub data Structure : Type 0 where
+  carriers : (first : ℕ) → List (Numbered Carriers) → Structure
+  modes : (first : ℕ) → List (Numbered Mode) → Structure
+  channels : VcmHead → List (Numbered Channel) → Structure
+  ranges : DcmHead → List (Numbered Range) → Structure
 
--- of the section without its CRC, front to back behind the header
-unfoldable pub body : Table → List ℕ → Got Body
-body Cds bs = giving (carriers (byte 4 bs)) (records cds (byte 5 bs) (byte 4 bs) (from bs 7))
-body Mms bs = giving (modes (byte 4 bs)) (records mms (byte 5 bs) (byte 4 bs) (from bs 7))
-body Vcm bs = andThen (head vcmHead (from bs 7)) (λ h rest. giving (channels h) (records (vcm (h .included)) (h .count) 0 rest))
-body Dcm bs = andThen (head dcmHead (from bs 7)) (λ h rest. giving (ranges h) (records dcm (h .length) (h .first) rest))
+-- of the section without its CRC, front to back
+unfoldable pub structure : Table → List ℕ → Got Structure
+structure Cds bs = giving (carriers (byte 4 bs)) (records cds (byte 5 bs) (byte 4 bs) (from bs 7))
+structure Mms bs = giving (modes (byte 4 bs)) (records mms (byte 5 bs) (byte 4 bs) (from bs 7))
+structure Vcm bs =
+    andThen (head vcmHead (from bs 7)) (λ h rest. giving (channels h) (records (vcm (h .included)) (h .count) 0 rest))
+structure Dcm bs =
+    andThen (head dcmHead (from bs 7)) (λ h rest. giving (ranges h) (records dcm (h .length) (h .first) rest))
 
--- ---- The revision descriptor, tag 0x93: 3 reserved bits, version (5), section number (8), last number (8), then perhaps more
+-- ---- "The revision descriptor, tag 0x93, is 3 reserved bits, version (5), section number (8), last number (8), then perhaps
+-- more bytes, which are passed over. It counts only in the closing list, at any place in it. All other tags are unknown and
+-- passed over .. Reserved bits are never looked at."
 
 abbrev pub revisionTag : ℕ
 revisionTag = 0x93
 
--- 11, of the bodies with its tag in the closing list: absent, body below 3 bytes, number above last, or twice
+-- refusal 11, of the bodies with its tag: absent; body below 3 bytes, or number above last; twice
 unfoldable pub revision : List (List ℕ) → Got Revision
 revision [] = refused 11
 revision (r ∷ []) =
@@ -90,40 +102,35 @@ revision (r ∷ second ∷ more) = refused 11
 pub record Content : Type 0 where
   pub table : Table
   pub map : ℕ
-  pub body : Body
+  pub structure : Structure
   pub closing : List Descriptor
   pub revision : Revision
 
--- of the section without its CRC: the header, the table's part, the closing list; 11 is judged last
+-- of the section without its CRC: the header, the structure, the closing list; "11 is judged last"
 unfoldable pub content : List ℕ → Got Content
 content bs =
     andThen (header bs) (λ t rest.
-    andThen (body t bs) (λ b tail.
+    andThen (structure t bs) (λ x tail.
     andThen (closing tail) (λ ds end.
     giving
-    (λ r. record { table = t; map = mapOf bs; body = b; closing = ds; revision = r })
+    (λ r. record { table = t; map = mapOf bs; structure = x; closing = ds; revision = r })
     (revision (bodies revisionTag ds)))))
 
--- section length L, the 12 low bits of bytes 1 and 2; it counts all that follows. The two bits above it are reserved
-unfoldable pub lengthOf : List ℕ → ℕ
-lengthOf s = byte 1 s % 16 * 256 + byte 2 s
-
--- 3: fewer than 8 bytes, or not exactly 3 + L, or L above 1,021
+-- refusal 3: fewer than 8 bytes, or not exactly 3 + L, or L above 1,021
 unfoldable pub fitting : List ℕ → Bool
 fitting s = leb 8 (length s) && eqb (length s) (3 + lengthOf s) && leb (lengthOf s) 1021
 
--- the section without its CRC
-unfoldable pub room : List ℕ → List ℕ
-room s = take (length s - 4) s
+unfoldable pub withoutCrc : List ℕ → List ℕ
+withoutCrc s = take (length s - 4) s
 
--- 3 to 6 by number, then 7 and front to back
+-- refusals 3 to 6 by number, then 7 and front to back
 unfoldable pub whole : List ℕ → Got Content
 whole s =
     unless (fitting s) 3
     (unless (eqb (byte 0 s) 0xC2 || eqb (byte 0 s) 0xC4) 4
     (unless (eqb (crcOf s) 0) 5
     (unless (eqb (byte 3 s % 32) 0) 6
-    (content (room s)))))
+    (content (withoutCrc s)))))
 
 pub data Reading : Type 0 where
   wrong : ℕ → Reading
@@ -136,7 +143,7 @@ read (got c rest) = right c
 unfoldable pub readSection : List ℕ → Reading
 readSection s = read (whole s)
 
--- ---- "does this section read right? The answer is 0 or the refusal."
+-- ---- The C side: "does this section read right? The answer is 0 or the refusal." Without state or store it begins at 3.
 
 unfoldable pub checkOf : Reading → ℕ
 checkOf (wrong n) = n
@@ -152,21 +159,21 @@ unfoldable pub sizeOf : List Descriptor → ℕ
 sizeOf [] = 0
 sizeOf (d ∷ ds) = 2 + length (d .body) + sizeOf ds
 
--- the first descriptor of a tag, in a list that begins at a place of the section; absent exactly when there is none
-unfoldable pub firstOf : ℕ → ℕ → List Descriptor → Asked
+-- in a list that begins at a place of the section; "it answers that there is none exactly when no such tag stands there"
+unfoldable pub firstOf : (tag at : ℕ) → List Descriptor → Asked
 firstOf tag at [] = Asked.Absent
 firstOf tag at (d ∷ ds) =
     cond (eqb (d .tag) tag) (Asked.There (at + 2) (length (d .body))) (firstOf tag (at + 2 + length (d .body)) ds)
 
--- the closing list fills the room up to the CRC, so it begins its own size before it
-unfoldable pub askedOf : ℕ → List ℕ → Reading → Asked
+-- the closing list ends at the CRC, so it begins as many bytes before the CRC as it has
+unfoldable pub askedOf : (tag : ℕ) → List ℕ → Reading → Asked
 askedOf tag s (wrong n) = Asked.Refused n
-askedOf tag s (right c) = firstOf tag (length (room s) - sizeOf (c .closing)) (c .closing)
+askedOf tag s (right c) = firstOf tag (length (withoutCrc s) - sizeOf (c .closing)) (c .closing)
 
-unfoldable pub ask : ℕ → List ℕ → Asked
+unfoldable pub ask : (tag : ℕ) → List ℕ → Asked
 ask tag s = askedOf tag s (readSection s)
 
--- "Its body is shown as a part of the section itself, not copied"; an empty part where there is none
+-- "Its body is shown as a part of the section itself, not copied"; where it isn't there the part is empty
 unfoldable pub partOf : List ℕ → Asked → List ℕ
 partOf s (Asked.Refused n) = []
 partOf s Asked.Absent = []

@@ -1,5 +1,6 @@
--- Document 01, "Bytes of a section": the records of the four tables and the heads of VCM and DCM, each as the paper lays
--- it out; and of "Numbers of refusal" the clauses of 10.
+-- Document 01, "Bytes of a section": the records of the four tables and the heads of VCM and DCM, bit by bit; and of
+-- "Numbers of refusal" their clauses of 10 (first index 0 is the header's: Section.antt). Where document 003 says another
+-- limit, document 01 wins.
 use Prim.Native.Nat.{ℕ, _+_, _*_, _/_, _%_}
 use mathlib.Core.Bool.{Bool, true, false, cond, _&&_, _||_}
 use mathlib.Core.List.{List, [], _∷_}
@@ -37,7 +38,8 @@ inKhz m = cond (eqb (m .unit) 0) (m .number * 10) (m .number * 125)
 unfoldable pub carrierKhz : Carriers → ℕ → ℕ
 carrierKhz c k = inKhz (c .first) + k * inKhz (c .spacing)
 
--- 10: carriers 0; an index above 255. "Each carrier takes one index"
+-- refusal 10: carriers 0; an index above 255. "Each carrier takes one index, counting on from the first index over all records
+-- of the section."
 unfoldable pub carriersFair : ℕ → Carriers → Bool
 carriersFair index c = ltb 0 (c .count) && leb (index + c .count) 256
 
@@ -71,14 +73,15 @@ unfoldable pub among : ℕ → List ℕ → Bool
 among x [] = false
 among x (y ∷ ys) = eqb x y || among x ys
 
--- assigned in Tables 5.7, 5.8 and 5.9 of document 003; a value marked reserved there is refused
+-- "System, inner coding and format must be assigned in Tables 5.7, 5.8 and 5.9 of 003; a value marked reserved there is
+-- refused."
 unfoldable pub assigned : Mode → Bool
 assigned m =
     among (m .system) (0 ∷ 2 ∷ 3 ∷ 4 ∷ [])
     && among (m .inner) (0 ∷ 1 ∷ 3 ∷ 5 ∷ 7 ∷ 8 ∷ 9 ∷ 11 ∷ 15 ∷ [])
     && leb (m .format) 24
 
--- 10: unassigned mode value; an index above 255. "One index each"
+-- refusal 10: unassigned mode value; an index above 255. "One index each."
 unfoldable pub modeFair : ℕ → Mode → Bool
 modeFair index m = assigned m && leb index 255
 
@@ -143,7 +146,7 @@ unfoldable pub standardFair : Signal → Bool
 standardFair (Digital program mode) = true
 standardFair (Analogue scrambled standard) = leb standard 4
 
--- 10: channel type above 1; video standard above 4
+-- refusal 10: channel type above 1; video standard above 4
 unfoldable pub channelFair : ℕ → Channel → Bool
 channelFair index c = leb (c .kind) 1 && standardFair (c .signal)
 
@@ -183,11 +186,11 @@ dcmHead =
 unfoldable pub rangeOf : List ℕ → Range
 rangeOf r = record { defined = byte 0 r / 128; count = byte 0 r % 128 }
 
--- 10: channel count 0; a DCM range past 4095
+-- refusal 10: channel count 0; a DCM range past 4095
 unfoldable pub rangeFair : ℕ → Range → Bool
 rangeFair first r = ltb 0 (r .count) && leb (first + r .count) 4096
 
--- each range takes the channels behind those of the range before it
+-- the first range begins at first channel, each other one where the range before it ends
 unfoldable pub dcm : Layout Range
 dcm =
     record {

@@ -7,8 +7,8 @@ use lib.ListN.{length}
 use lib.Dec.{leb, ltb, eqb}
 use Rattle.rules.specs.Layout.{Numbered}
 use Rattle.rules.specs.Tables.{carrierKhz}
-use Rattle.rules.specs.Section.{Body, carriers, modes, channels, ranges, Reading, wrong, right, readSection}
-use Rattle.rules.specs.Holding.{limitOf, indexOf, storeSize, sectionAt, heldOf, liveAt, wellFormed, otherMap}
+use Rattle.rules.specs.Section.{Structure, carriers, modes, channels, ranges, Reading, wrong, right, readSection}
+use Rattle.rules.specs.Holding.{limitOf, indexOf, storeSize, sectionAt, holdingOf, liveAt, wellFormed, otherMap}
 use Rattle.rules.specs.Search.{first, sections}
 use Rattle.rules.specs.declared.Table.{Table}
 use Rattle.rules.specs.declared.Table.the-variants.{Cds, Mms, Vcm, Dcm}
@@ -22,32 +22,32 @@ use Rattle.rules.specs.declared.State.{State}
 use Rattle.rules.specs.declared.Tuned.{Tuned}
 use Rattle.rules.specs.declared.Tuned.the-variants as Tuned
 
--- ---- 15 and 16: the live places
+-- ---- refusals 15 and 16: the live places
 
--- 15: one of the four tables isn't live
+-- refusal 15, unless all four tables are live
 unfoldable pub tableLive : State → Table → Bool
-tableLive s t = eqb (heldOf s t .live .present) 1
+tableLive s t = eqb (holdingOf s t .live .present) 1
 
 unfoldable pub allLive : State → Bool
 allLive s = tableLive s Cds && tableLive s Mms && tableLive s Vcm && tableLive s Dcm
 
 -- sections 0 to last of a live table
 unfoldable pub liveCount : State → Table → ℕ
-liveCount s t = heldOf s t .live .last + 1
+liveCount s t = holdingOf s t .live .last + 1
 
 -- what the place of section n of a live table reads as
 unfoldable pub liveReading : State → List ℕ → Table → (n : ℕ) → Reading
 liveReading s store t n = readSection (sectionAt store (liveAt s t n))
 
--- 16: it reads right as that table, map, version, number and last
+-- refusal 16, unless each live place reads right as that table, map, version, number and last
 unfoldable pub readsAs : State → Table → (n : ℕ) → Reading → Bool
 readsAs s t n (wrong k) = false
 readsAs s t n (right c) =
     eqb (indexOf (c .table)) (indexOf t)
     && not (otherMap s c)
-    && eqb (c .revision .version) (heldOf s t .live .version)
+    && eqb (c .revision .version) (holdingOf s t .live .version)
     && eqb (c .revision .number) n
-    && eqb (c .revision .last) (heldOf s t .live .last)
+    && eqb (c .revision .last) (holdingOf s t .live .last)
 
 -- the test holds for 0 to n - 1
 unfoldable pub every : (n : ℕ) → (ℕ → Bool) → Bool
@@ -66,42 +66,43 @@ allRead s store =
 
 -- ---- the live records of the four tables
 
-unfoldable pub carriersIn : Body → List (Numbered Carriers)
+unfoldable pub carriersIn : Structure → List (Numbered Carriers)
 carriersIn (carriers index rs) = rs
 carriersIn (modes index rs) = []
 carriersIn (channels h rs) = []
 carriersIn (ranges h rs) = []
 
-unfoldable pub modesIn : Body → List (Numbered Mode)
+unfoldable pub modesIn : Structure → List (Numbered Mode)
 modesIn (carriers index rs) = []
 modesIn (modes index rs) = rs
 modesIn (channels h rs) = []
 modesIn (ranges h rs) = []
 
-unfoldable pub channelsIn : Body → List (Numbered Channel)
+unfoldable pub channelsIn : Structure → List (Numbered Channel)
 channelsIn (carriers index rs) = []
 channelsIn (modes index rs) = []
 channelsIn (channels h rs) = rs
 channelsIn (ranges h rs) = []
 
-unfoldable pub rangesIn : Body → List (Numbered Range)
+unfoldable pub rangesIn : Structure → List (Numbered Range)
 rangesIn (carriers index rs) = []
 rangesIn (modes index rs) = []
 rangesIn (channels h rs) = []
 rangesIn (ranges h rs) = rs
 
-unfoldable pub recordsIn : {R : Type 0} → (Body → List R) → Reading → List R
+unfoldable pub recordsIn : {R : Type 0} → (Structure → List R) → Reading → List R
 recordsIn records (wrong n) = []
-recordsIn records (right c) = records (c .body)
+recordsIn records (right c) = records (c .structure)
 
 -- the records of section n of a live table
-unfoldable pub liveSection : {R : Type 0} → (Body → List R) → State → List ℕ → Table → (n : ℕ) → List R
+unfoldable pub liveSection : {R : Type 0} → (Structure → List R) → State → List ℕ → Table → (n : ℕ) → List R
 liveSection records s store t n = recordsIn records (liveReading s store t n)
 
 -- the live records of a table, lowest section first
-unfoldable pub liveRecords : {R : Type 0} → (Body → List R) → State → List ℕ → Table → List R
+unfoldable pub liveRecords : {R : Type 0} → (Structure → List R) → State → List ℕ → Table → List R
 liveRecords records s store t = sections (liveSection records s store t) (liveCount s t) 0
 
+-- the live records of the four tables
 pub record Plant : Type 0 where
   pub carriers : List (Numbered Carriers)
   pub modes : List (Numbered Mode)
@@ -143,23 +144,24 @@ definedBy (some e) = eqb (e .what .defined) 1
 unfoldable pub defined : List (Numbered Range) → (number : ℕ) → Bool
 defined rs number = definedBy (first (isRange number) rs)
 
--- ---- 17 to 21, in their order
+-- ---- refusals 17 to 21, in their order
 
--- where the test fails, the refusal
+-- the refusal, unless the test holds
 unfoldable pub needs : Bool → (n : ℕ) → Tuned → Tuned
 needs true n t = t
 needs false n t = Tuned.Refused n
 
--- where nothing was found, the refusal
+-- the refusal, where nothing was found
 unfoldable pub found : {R : Type 0} → Option R → (n : ℕ) → (R → Tuned) → Tuned
 found none n f = Tuned.Refused n
 found (some r) n f = f r
 
--- type 1
+-- hidden is type 1
 unfoldable pub hidden : Channel → ℕ
 hidden c = cond (eqb (c .kind) 1) 1 0
 
--- 21: digital, and mode reference 0 or without a record
+-- "digital (frequency, programme, mode record) or analogue (frequency, standard, scrambled), with path and hidden";
+-- refusal 21: digital, and mode reference 0 or without a record
 unfoldable pub tuneSignal : Plant → Channel → (khz : ℕ) → Signal → Tuned
 tuneSignal p c khz (Signal.Analogue scrambled standard) = Tuned.Analogue (hidden c) (c .path) khz standard scrambled
 tuneSignal p c khz (Signal.Digital program mode) =
@@ -167,11 +169,11 @@ tuneSignal p c khz (Signal.Digital program mode) =
     (found (first (isMode mode) (p .modes)) 21 (λ m.
     Tuned.Digital (hidden c) (c .path) khz program (m .what)))
 
--- 20: frequency below 54,000 or above 1,002,000 kHz
+-- refusal 20: frequency below 54,000 or above 1,002,000 kHz
 unfoldable pub tuneKhz : Plant → Channel → (khz : ℕ) → Tuned
 tuneKhz p c khz = needs (leb 54000 khz && leb khz 1002000) 20 (tuneSignal p c khz (c .signal))
 
--- 19: carrier reference 0 or without a carrier
+-- refusal 19: carrier reference 0 or without a carrier
 unfoldable pub tuneCarrier : Plant → Channel → Tuned
 tuneCarrier p c =
     needs (ltb 0 (c .carrier)) 19
@@ -183,7 +185,7 @@ unfoldable pub tuneChannel : Plant → Channel → Tuned
 tuneChannel p c =
     cond (eqb (c .application) 1) (Tuned.Application (hidden c) (c .path) (c .source)) (tuneCarrier p c)
 
--- 17: channel not defined; 18: defined, but no channel record
+-- refusal 17: channel not defined; refusal 18: defined, but no channel record
 unfoldable pub lookUp : Plant → (number : ℕ) → Tuned
 lookUp p number =
     needs (defined (p .ranges) number) 17

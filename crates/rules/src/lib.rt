@@ -1,5 +1,5 @@
 // The shared types: what the records of the tables say, what the state holds, what the box answers.
-// They hold no more than document 01 names, and no function stands here: the meaning is specs/.
+// They hold what document 01 names, and no function stands here: the meaning is specs/.
 
 // The four tables, in the order of their places in the store.
 pub enum Table {
@@ -39,7 +39,7 @@ pub enum Signal {
     Analogue { scrambled: u8, standard: u8 },
 }
 
-// A channel record of the VCM. `kind` is its type; `source` is the application number where application is 1.
+// A channel record of the VCM. `kind` is its type, 0 or 1 (hidden); `source` is the application number where application is 1.
 pub struct Channel {
     pub number: u16,
     pub application: u8,
@@ -70,7 +70,7 @@ pub struct DcmHead {
     pub length: u8,
 }
 
-// The first three bytes of the revision descriptor without their reserved bits.
+// The first three body bytes of the revision descriptor without their reserved bits.
 pub struct Revision {
     pub version: u8,
     pub number: u8,
@@ -101,7 +101,7 @@ pub struct GatheredVersion {
     pub held: u8,
 }
 
-// What is held of one table.
+// What is held of one table. `half` is the half set: the live one, and gathering uses the other.
 pub struct Holding {
     pub live: LiveVersion,
     pub gathered: GatheredVersion,
