@@ -3,14 +3,14 @@
 use Prim.Native.Nat.{ℕ}
 use mathlib.Core.Path.{_≡_, refl}
 use mathlib.Core.Bool.{Bool, true, false}
-use mathlib.Core.List.{List, [], _∷_, _++_, map}
+use mathlib.Core.List.{List, [], _∷_, _++_, map, flatten}
 use Rattle.rules.specs.Descriptors.{Descriptor}
 use Rattle.rules.specs.Layout.{Numbered}
 use Rattle.rules.specs.Tables.{carriersOf, carrierKhz}
 use Rattle.rules.specs.Section.{carriers, modes, channels, ranges, Content, right, readSection, check}
 use Rattle.rules.specs.Holding.{run, answers}
 use Rattle.rules.specs.Tuning.{defined, tune}
-use Rattle.rules.specs.Lineup.{text, freshBox, joined, lineup}
+use Rattle.rules.specs.Lineup.{text, freshBox, lineup}
 use Rattle.rules.specs.declared.Table.the-variants.{Cds, Mms, Vcm, Dcm}
 use Rattle.rules.specs.declared.Mode.{Mode}
 use Rattle.rules.specs.declared.Signal.the-variants.{Digital, Analogue}
@@ -146,7 +146,7 @@ pub record Examples : Type 0 where
   pub empty : lineup (hex "00 00") ≡ text "lineup=1\nmap=0\nsections=0\nrefused=0\ncds=none\nmms=none\nvcm=none\ndcm=none\nchannels=0\n"
   -- "The digital line comes from C1, C12 at mode index 1, C7 and C9, all live, first index 1": the whole output
   pub digital :
-      lineup (hex "00 00" ++ joined examplePlant)
+      lineup (hex "00 00" ++ flatten examplePlant)
       ≡ text "lineup=1\nmap=0\nsections=4\nrefused=0\ncds=5\nmms=5\nvcm=5\ndcm=5\nchannels=1\n"
       ++ text "channel=3 kind=digital hidden=0 path=0 khz=63000 program=3 system=2 inner=15 split=0 format=8 symbols=5056941\n"
 

@@ -32,7 +32,7 @@ limitOf s = 4
 unfoldable pub tables : ℕ
 tables = 4
 
-unfoldable pub indexOf : Table → ℕ
+abbrev pub indexOf : Table → ℕ
 indexOf Cds = 0
 indexOf Mms = 1
 indexOf Vcm = 2
@@ -59,14 +59,14 @@ put store at section = take at store ++ section ++ drop (at + length section) st
 -- ---- "The state knows its map number, given at the start, and for each table: live version and last number, or none; the
 -- version being gathered with its last number and the numbers held, or none; and which half is live."
 
-unfoldable pub holdingOf : State → Table → Holding
+abbrev pub holdingOf : State → Table → Holding
 holdingOf s Cds = s .cds
 holdingOf s Mms = s .mms
 holdingOf s Vcm = s .vcm
 holdingOf s Dcm = s .dcm
 
 -- the state with another holding for one table, and the others as they were
-unfoldable pub with : State → Table → Holding → State
+abbrev pub with : State → Table → Holding → State
 with s Cds h = record { map = s .map; cds = h; mms = s .mms; vcm = s .vcm; dcm = s .dcm }
 with s Mms h = record { map = s .map; cds = s .cds; mms = h; vcm = s .vcm; dcm = s .dcm }
 with s Vcm h = record { map = s .map; cds = s .cds; mms = s .mms; vcm = h; dcm = s .dcm }
@@ -194,7 +194,7 @@ stepOf limit h r =
 -- ---- an offer: what it answers, and the state after it
 
 -- 0xC4 has a map number
-unfoldable pub hasMap : Table → Bool
+abbrev pub hasMap : Table → Bool
 hasMap Cds = false
 hasMap Mms = false
 hasMap Vcm = true
@@ -224,7 +224,7 @@ offered s size section =
 -- ---- an offer: the store after it
 
 -- the answers of steps 5 and 6; "refusals, other map and repeat leave state and store untouched"
-unfoldable pub takesIn : Answer → Bool
+abbrev pub takesIn : Answer → Bool
 takesIn (Refused n) = false
 takesIn OtherMap = false
 takesIn Repeat = false

@@ -4,14 +4,16 @@ use Prim.Native.Nat.{ℕ, zero, suc, _+_, _/_, _%_}
 use Prim.Native.Char.{code}
 use Prim.Native.String.{String, [] as []ₜ, _∷_ as _∷ₜ_}
 use mathlib.Core.Bool.{cond}
-use mathlib.Core.List.{List, [], _∷_, _++_}
+use mathlib.Core.List.{List, [], _∷_, _++_, flatten}
 use lib.ListN.{length, take, replicate}
 use lib.Dec.{ltb, eqb}
 use Rattle.rules.specs.Bytes.{word, from}
 use Rattle.rules.specs.Section.{lengthOf}
 use Rattle.rules.specs.Holding.{limitOf, storeSize, fresh, Box, run, answers}
 use Rattle.rules.specs.Tuning.{tune}
+use Rattle.rules.specs.declared.Mode.{Mode}
 use Rattle.rules.specs.declared.LiveVersion.{LiveVersion}
+use Rattle.rules.specs.declared.State.{State}
 use Rattle.rules.specs.declared.Answer.{Answer}
 use Rattle.rules.specs.declared.Answer.the-variants as Answer
 use Rattle.rules.specs.declared.Tuned.{Tuned}
@@ -71,44 +73,49 @@ refusals (Answer.Live v ∷ more) = refusals more
 unfoldable pub version : LiveVersion → List ℕ
 version l = cond (eqb (l .present) 1) (decimal (l .version)) (text "none")
 
+-- live version or none, of each table
+unfoldable pub versionLines : State → List ℕ
+versionLines s =
+    line "cds=" (version (s .cds .live))
+    ++ line "mms=" (version (s .mms .live))
+    ++ line "vcm=" (version (s .vcm .live))
+    ++ line "dcm=" (version (s .dcm .live))
+
+-- what the lines of the three kinds have in front, and what a digital one has behind
+unfoldable pub front : (number : ℕ) → (kind : String) → (hidden path : ℕ) → List ℕ
+front number kind hidden path =
+    field "channel=" number ++ text kind ++ field " hidden=" hidden ++ field " path=" path
+
+unfoldable pub modeFields : Mode → List ℕ
+modeFields m =
+    field " system=" (m .system)
+    ++ field " inner=" (m .inner)
+    ++ field " split=" (m .split)
+    ++ field " format=" (m .format)
+    ++ field " symbols=" (m .symbols)
+
 -- the line of a channel that tunes or is an application; no line where it is refused
 unfoldable pub channelLine : (number : ℕ) → Tuned → List (List ℕ)
 channelLine number (Tuned.Refused n) = []
 channelLine number (Tuned.Digital hidden path khz program mode) =
-    (field "channel=" number
-    ++ field " kind=digital hidden=" hidden
-    ++ field " path=" path
+    (front number " kind=digital" hidden path
     ++ field " khz=" khz
     ++ field " program=" program
-    ++ field " system=" (mode .system)
-    ++ field " inner=" (mode .inner)
-    ++ field " split=" (mode .split)
-    ++ field " format=" (mode .format)
-    ++ field " symbols=" (mode .symbols)
+    ++ modeFields mode
     ++ text "\n") ∷ []
 channelLine number (Tuned.Analogue hidden path khz standard scrambled) =
-    (field "channel=" number
-    ++ field " kind=analogue hidden=" hidden
-    ++ field " path=" path
+    (front number " kind=analogue" hidden path
     ++ field " khz=" khz
     ++ field " standard=" standard
     ++ field " scrambled=" scrambled
     ++ text "\n") ∷ []
 channelLine number (Tuned.Application hidden path application) =
-    (field "channel=" number
-    ++ field " kind=application hidden=" hidden
-    ++ field " path=" path
-    ++ field " application=" application
-    ++ text "\n") ∷ []
+    (front number " kind=application" hidden path ++ field " application=" application ++ text "\n") ∷ []
 
 -- the lines of n channels from a number on, ascending
 unfoldable pub channelLines : (ℕ → Tuned) → (n number : ℕ) → List (List ℕ)
 channelLines tuned zero number = []
 channelLines tuned (suc n) number = channelLine number (tuned number) ++ channelLines tuned n (number + 1)
-
-unfoldable pub joined : List (List ℕ) → List ℕ
-joined [] = []
-joined (l ∷ ls) = l ++ joined ls
 
 -- "It prints key=value lines in this order: lineup=1, map, sections (offered), refused, cds, mms, vcm, dcm (live version or
 -- none), channels (those that tune or are applications), then one line each, ascending."
@@ -119,12 +126,9 @@ printed b sections refused =
     ++ line "map=" (decimal (b .state .map))
     ++ line "sections=" (decimal sections)
     ++ line "refused=" (decimal refused)
-    ++ line "cds=" (version (b .state .cds .live))
-    ++ line "mms=" (version (b .state .mms .live))
-    ++ line "vcm=" (version (b .state .vcm .live))
-    ++ line "dcm=" (version (b .state .dcm .live))
+    ++ versionLines (b .state)
     ++ line "channels=" (decimal (length lines))
-    ++ joined lines
+    ++ flatten lines
 
 unfoldable pub printedOf : Box → (sections : List (List ℕ)) → List ℕ
 printedOf b sections = printed (run b sections) (length sections) (refusals (answers b sections))

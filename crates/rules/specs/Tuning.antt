@@ -169,9 +169,13 @@ tuneSignal p c khz (Signal.Digital program mode) =
     (found (first (isMode mode) (p .modes)) 21 (λ m.
     Tuned.Digital (hidden c) (c .path) khz program (m .what)))
 
+-- what the tuner reaches: 54,000 to 1,002,000 kHz
+unfoldable pub inReach : (khz : ℕ) → Bool
+inReach khz = leb 54000 khz && leb khz 1002000
+
 -- refusal 20: frequency below 54,000 or above 1,002,000 kHz
 unfoldable pub tuneKhz : Plant → Channel → (khz : ℕ) → Tuned
-tuneKhz p c khz = needs (leb 54000 khz && leb khz 1002000) 20 (tuneSignal p c khz (c .signal))
+tuneKhz p c khz = needs (inReach khz) 20 (tuneSignal p c khz (c .signal))
 
 -- refusal 19: carrier reference 0 or without a carrier
 unfoldable pub tuneCarrier : Plant → Channel → Tuned
