@@ -1,6 +1,7 @@
 -- Where document 01 can be read in two ways, the one taken: the entries marked in docs/DECISIONS.md, each on an input that
--- tells the ways apart, as one collected fact about the rules.
-use Prim.Native.Nat.{ℕ}
+-- tells the ways apart, as one collected fact about the rules. Two parts more hold what no example of the paper shows: the
+-- order of the places, and a missing number that is not the last one.
+use Prim.Native.Nat.{ℕ, _*_}
 use Prim.Native.String.{String}
 use mathlib.Core.Path.{_≡_, refl}
 use mathlib.Core.Bool.{false}
@@ -9,11 +10,12 @@ use lib.ListN.{length, replicate}
 use Rattle.rules.specs.Layout.{Numbered}
 use Rattle.rules.specs.Tables.{carriersOf, modeOf, channelOf, rangeOf}
 use Rattle.rules.specs.Section.{check, ask}
-use Rattle.rules.specs.Holding.{noneLive, noneGathered, freshHolding, fresh, liveFormed, gatheredFormed, offered, gatheredAt}
+use Rattle.rules.specs.Holding.{noneLive, noneGathered, freshHolding, fresh, liveFormed, gatheredFormed, placeOf, storeSize, stepOf, offered, gatheredAt}
 use Rattle.rules.specs.Tuning.{Plant, lookUp, tune}
 use Rattle.rules.specs.Lineup.{text, sectionsOf, refusals, channelLine, lineup}
-use Rattle.rules.specs.declared.Table.the-variants.{Cds}
-use Rattle.rules.specs.declared.Answer.the-variants.{Refused, OtherMap, Repeat}
+use Rattle.rules.specs.declared.Table.the-variants.{Cds, Mms, Vcm, Dcm}
+use Rattle.rules.specs.declared.Holding.{Holding}
+use Rattle.rules.specs.declared.Answer.the-variants.{Refused, OtherMap, Repeat, Stored}
 use Rattle.rules.specs.declared.Asked.the-variants as Asked
 use Rattle.rules.specs.declared.Carriers.{Carriers}
 use Rattle.rules.specs.declared.Mode.{Mode}
@@ -22,6 +24,11 @@ use Rattle.rules.specs.declared.Range.{Range}
 use Rattle.rules.specs.declared.Tuned.the-variants as Tuned
 use Rattle.rules.proofs.Hex.{hex}
 use Rattle.rules.proofs.Computed.{computed}
+
+-- version 5 with last 3 being gathered, and these numbers held
+abbrev pub holding5 : (held : ℕ) → Holding
+holding5 held =
+    record { live = noneLive; gathered = record { present = 1; version = 5; last = 3; held = held }; half = 1 }
 
 -- plants of a few records, with the mode of C12 at index 1
 abbrev pub c12 : Mode
@@ -111,6 +118,13 @@ pub record Readings : Type 0 where
   pub b9 : liveFormed 4 (record { present = 0; version = 0; last = 1 }) ≡ false
   -- B10: held numbers beyond last
   pub b10 : gatheredFormed 4 (record { present = 1; version = 5; last = 1; held = 0x11 }) ≡ false
+  -- the store: 32 places of 1,024 bytes, tables in the order CDS, MMS, VCM, DCM, half 0 then half 1
+  pub places : map (λ t. placeOf 4 t 1 3) (Cds ∷ Mms ∷ Vcm ∷ Dcm ∷ []) ≡ 7 * 1024 ∷ 15 * 1024 ∷ 23 * 1024 ∷ 31 * 1024 ∷ []
+  pub places-all : storeSize 4 ≡ 32768
+  -- last + 1 less those held: of 0 to 3 first 2, then 0, then 3
+  pub missing : stepOf 4 freshHolding (record { version = 5; number = 2; last = 3 }) ≡ record { answer = Stored 3; holding = holding5 0x04 }
+  pub missing-two : stepOf 4 (holding5 0x04) (record { version = 5; number = 0; last = 3 }) ≡ record { answer = Stored 2; holding = holding5 0x05 }
+  pub missing-one : stepOf 4 (holding5 0x05) (record { version = 5; number = 3; last = 3 }) ≡ record { answer = Stored 1; holding = holding5 0x0D }
   -- T1: the first covering range decides, also where it says not defined
   pub t1 : lookUp (plantOf c1 c9 (range 3 "01" ++ range 3 "81")) 3 ≡ Tuned.Refused 17
   -- T3: the first carrier of an index ends the search, also where it is out of range
@@ -182,6 +196,11 @@ readings =
       b8 = refl;
       b9 = refl;
       b10 = refl;
+      places = refl;
+      places-all = refl;
+      missing = refl;
+      missing-two = refl;
+      missing-one = refl;
       t1 = refl;
       t3 = refl;
       t4 = refl;
