@@ -141,7 +141,7 @@ pub record Readings : Type 0 where
   pub t16 : lookUp (plantOf (carrier 2 "01 00 00 15 17") (channel "00 03 00 12 34 02 00 03 00") (range 3 "81")) 3 ≡ Tuned.Refused 20
   -- T17: a fresh box answers 14 before 15
   pub t17 : map (tune (fresh 0) (replicate 32768 0)) (4095 ∷ 4096 ∷ []) ≡ Tuned.Refused 15 ∷ Tuned.Refused 14 ∷ []
-  -- D1: the three kinds have hidden and path (digital: C1 to C9)
+  -- D1: hidden and path stand in the lines of all three kinds (the digital one is a part of `examples`)
   pub d1 : channelLine 3 (Tuned.Application 0 1 7) ≡ text "channel=3 kind=application hidden=0 path=1 application=7\n" ∷ []
   pub d1-analogue : channelLine 8 (Tuned.Analogue 1 0 63000 4 1) ≡ text "channel=8 kind=analogue hidden=1 path=0 khz=63000 standard=4 scrambled=1\n" ∷ []
   -- D3: a last section of one byte is offered as it is
