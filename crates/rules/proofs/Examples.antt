@@ -2,7 +2,7 @@
 -- Each part is computed from the definitions, on whole sections with their CRC.
 use Prim.Native.Nat.{ℕ}
 use mathlib.Core.Path.{_≡_, refl}
-use mathlib.Core.Bool.{Bool, true, false}
+use mathlib.Core.Bool.{true, false}
 use mathlib.Core.List.{List, [], _∷_, _++_, map, flatten}
 use Rattle.rules.specs.Descriptors.{Descriptor}
 use Rattle.rules.specs.Layout.{Numbered}

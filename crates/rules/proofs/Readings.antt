@@ -30,6 +30,10 @@ abbrev pub holding5 : (held : ℕ) → Holding
 holding5 held =
     record { live = noneLive; gathered = record { present = 1; version = 5; last = 3; held = held }; half = 1 }
 
+-- version 5 with last 0 live
+abbrev pub live5 : Holding
+live5 = record { live = record { present = 1; version = 5; last = 0 }; gathered = noneGathered; half = 0 }
+
 -- plants of a few records, with the mode of C12 at index 1
 abbrev pub c12 : Mode
 c12 = modeOf (hex "2F 08 00 4D 29 AD")
@@ -67,8 +71,9 @@ pub record Readings : Type 0 where
   pub a6 : check (hex "C2 30 08 00 00 01 01 EF C0 96 6B") ≡ 10
   -- A7: first index 0 is refused without a record too
   pub a7 : check (hex "C2 30 0D 00 00 00 01 93 03 E5 00 00 FF 7E 2F E8") ≡ 10
-  -- A8: record count 0 is good
+  -- A8: record count 0 is good, in 0xC2 and in a VCM
   pub a8 : check (hex "C2 30 0D 00 01 00 01 93 03 E5 00 00 A4 DF F3 22") ≡ 0
+  pub a8-vcm : check (hex "C4 30 14 00 00 00 00 00 00 00 00 00 00 00 93 03 E5 00 00 50 B7 08 5C") ≡ 0
   -- A9: data length 0 is good
   pub a9 : check (hex "C4 30 10 00 01 00 00 00 02 00 93 03 E5 00 00 08 A1 EF 3D") ≡ 0
   -- A10: an index above 255 is judged with the record that passes it: behind its 8, and before the 9 of a later one
@@ -80,12 +85,16 @@ pub record Readings : Type 0 where
   pub a12 : check (hex "C4 30 0C 00 01 00 00 00 02 05 80 2B 36 E1 79") ≡ 10
   -- A13: a range that is not defined ends at 4095 too
   pub a13 : check (hex "C4 30 11 00 01 00 00 0F FF 01 02 93 03 E5 00 00 7A 62 E4 83") ≡ 10
-  -- A14: system 3 is assigned
+  -- A14: system 3 is assigned, and so are system 0 and format 0
   pub a14 : check (hex "C2 30 14 00 01 01 02 3F 08 00 4D 29 AD 00 93 03 E5 00 00 B1 35 81 8E") ≡ 0
-  -- A15: an application channel of transport 1 is judged as any record
+  pub a14-system : check (hex "C2 30 14 00 01 01 02 0F 08 00 4D 29 AD 00 93 03 E5 00 00 30 87 D1 2E") ≡ 0
+  pub a14-format : check (hex "C2 30 14 00 01 01 02 2F 00 00 4D 29 AD 00 93 03 E5 00 00 1D 78 DE 9B") ≡ 0
+  -- A15: an application channel of transport 1 is judged as any record, its standard and its zero bits
   pub a15 : check (hex "C4 30 1D 00 00 00 00 00 00 00 00 00 00 01 00 03 90 00 07 02 05 00 00 93 03 E5 00 00 90 E4 B3 90") ≡ 10
-  -- A16: symbol rate 0 is good
+  pub a15-zeros : check (hex "C4 30 1D 00 00 00 00 00 00 00 00 00 00 01 00 03 90 00 07 02 10 00 00 93 03 E5 00 00 0C DB A6 0E") ≡ 9
+  -- A16: symbol rate 0 is good; so are source, application, programme and references 0
   pub a16 : check (hex "C2 30 14 00 01 01 02 2F 08 00 00 00 00 00 93 03 E5 00 00 26 17 19 13") ≡ 0
+  pub a16-channel : check (hex "C4 30 26 00 00 00 00 00 00 00 00 00 00 02 00 03 00 00 00 00 00 00 00 00 04 80 00 00 00 00 00 00 93 03 E5 00 00 F0 C9 57 DC") ≡ 0
   -- A17: spacing 0 is good
   pub a17 : check (hex "C2 30 13 00 01 01 01 02 00 00 15 18 00 93 03 E5 00 00 C1 33 E8 55") ≡ 0
   -- A18: 0x93 in a record's list is passed over
@@ -99,6 +108,7 @@ pub record Readings : Type 0 where
   pub a21-empty : check (hex "C2 30 08 00 01 00 01 3C 01 FB 30") ≡ 11
   -- A22: of byte 3 the five low bits are judged as 6, before its zero bits, 9
   pub a22 : check (hex "C2 30 0D 21 01 00 01 93 03 E5 00 00 66 55 6E FE") ≡ 6
+  pub a22-version : check (hex "C2 30 0D 01 01 00 01 93 03 E5 00 00 56 DF 59 44") ≡ 6
   pub a22-zeros : check (hex "C2 30 0D 20 01 00 01 93 03 E5 00 00 94 55 C4 98") ≡ 9
   -- A23: all zero bits of a record come before its values
   pub a23 : check (hex "C4 30 1D 00 00 00 00 00 00 00 00 00 00 01 00 03 12 00 00 02 00 00 01 93 03 E5 00 00 CD 44 28 84") ≡ 9
@@ -137,6 +147,8 @@ pub record Readings : Type 0 where
   pub t7 : lookUp (plantOf c1 (channel "00 03 01 12 34 02 00 03 01") (range 3 "81")) 3 ≡ Tuned.Digital 1 0 63000 3 c12
   -- T10: programme 0 tunes
   pub t10 : lookUp (plantOf c1 (channel "00 03 00 12 34 02 00 00 01") (range 3 "81")) 3 ≡ Tuned.Digital 0 0 63000 0 c12
+  -- T11: without the modes no channel is looked up, of whatever kind
+  pub t11 : tune (record { map = 0; cds = live5; mms = freshHolding; vcm = live5; dcm = live5 }) (replicate 32768 0) 8 ≡ Tuned.Refused 15
   -- T16: a frequency out of range comes before a mode that is missing
   pub t16 : lookUp (plantOf (carrier 2 "01 00 00 15 17") (channel "00 03 00 12 34 02 00 03 00") (range 3 "81")) 3 ≡ Tuned.Refused 20
   -- T17: a fresh box answers 14 before 15
@@ -170,6 +182,7 @@ readings =
       a6 = refl;
       a7 = refl;
       a8 = refl;
+      a8-vcm = refl;
       a9 = refl;
       a10 = refl;
       a10-later = refl;
@@ -177,8 +190,12 @@ readings =
       a12 = refl;
       a13 = refl;
       a14 = refl;
+      a14-system = refl;
+      a14-format = refl;
       a15 = refl;
+      a15-zeros = refl;
       a16 = refl;
+      a16-channel = refl;
       a17 = refl;
       a18 = refl;
       a18-none = refl;
@@ -186,6 +203,7 @@ readings =
       a21 = refl;
       a21-empty = refl;
       a22 = refl;
+      a22-version = refl;
       a22-zeros = refl;
       a23 = refl;
       a24 = refl;
@@ -207,6 +225,7 @@ readings =
       t6 = refl;
       t7 = refl;
       t10 = refl;
+      t11 = refl;
       t16 = refl;
       t17 = refl;
       d1 = refl;

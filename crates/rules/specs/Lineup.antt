@@ -54,7 +54,7 @@ cut (suc most) bs =
 unfoldable pub sectionsOf : List ℕ → List (List ℕ)
 sectionsOf bs = cut (length bs) bs
 
--- a fresh box; its store is lent as zero bytes, which no answer depends on
+-- a fresh box, with a store of zero bytes
 unfoldable pub freshBox : (map : ℕ) → Box
 freshBox map = record { state = fresh map; store = replicate (storeSize (limitOf (fresh map))) 0 }
 
