@@ -21,6 +21,9 @@ use Rattle.rules.specs.declared.Channel.{Channel}
 use Rattle.rules.specs.declared.DcmHead.{DcmHead}
 use Rattle.rules.specs.declared.Range.{Range}
 use Rattle.rules.specs.declared.Revision.{Revision}
+use Rattle.rules.specs.declared.SectionHead.{SectionHead}
+use Rattle.rules.specs.declared.Read.{Read}
+use Rattle.rules.specs.declared.Read.the-variants as Read
 use Rattle.rules.specs.declared.Asked.{Asked}
 use Rattle.rules.specs.declared.Asked.the-variants as Asked
 
@@ -49,16 +52,20 @@ unfoldable pub given : {A B : Type 0} → Option A → ℕ → (A → Got B) →
 given none n f = refused n
 given (some a) n f = f a
 
--- of the section without its CRC: refusal 7, or 8 where medium and subtype aren't there; then the header whole, "zero bits of
--- bytes 1 and 3 come after 7", and first index 0
-unfoldable pub header : List ℕ → Got Table
-header bs =
-    unless (ltb (mediumAt bs) (length bs)) 8
-    (given (named (byte 0 bs) (byte (mediumAt bs) bs)) 7 (λ t.
+-- of the section without its CRC, once its table is known: the header whole; "zero bits of bytes 1 and 3 come after 7", and
+-- first index 0
+unfoldable pub headerWhole : Table → List ℕ → Got Table
+headerWhole t bs =
     unless (leb 7 (length bs)) 8
     (unless (eqb (byte 1 bs / 64) 0 && eqb (byte 3 bs / 32) 0) 9
     (unless (eqb (byte 0 bs) 0xC4 || ltb 0 (byte 4 bs)) 10
-    (got t (from bs 7))))))
+    (got t (from bs 7))))
+
+-- refusal 7, or 8 where medium and subtype aren't there; then the header whole
+unfoldable pub header : List ℕ → Got Table
+header bs =
+    unless (ltb (mediumAt bs) (length bs)) 8
+    (given (named (byte 0 bs) (byte (mediumAt bs) bs)) 7 (λ t. headerWhole t bs))
 
 -- the map number of 0xC4; 0xC2 has none, and 0 stands for it
 unfoldable pub mapOf : List ℕ → ℕ
@@ -107,14 +114,16 @@ pub record Content : Type 0 where
   pub revision : Revision
 
 -- of the section without its CRC: the header, the structure, the closing list; "11 is judged last"
-unfoldable pub content : List ℕ → Got Content
-content bs =
-    andThen (header bs) (λ t rest.
+unfoldable pub contentOf : Table → List ℕ → Got Content
+contentOf t bs =
     andThen (structure t bs) (λ x tail.
     andThen (closing tail) (λ ds end.
     giving
     (λ r. record { table = t; map = mapOf bs; structure = x; closing = ds; revision = r })
-    (revision (bodies revisionTag ds)))))
+    (revision (bodies revisionTag ds))))
+
+unfoldable pub content : List ℕ → Got Content
+content bs = andThen (header bs) (λ t rest. contentOf t bs)
 
 -- refusal 3: fewer than 8 bytes, or not exactly 3 + L, or L above 1,021
 unfoldable pub fitting : List ℕ → Bool
@@ -152,12 +161,46 @@ checkOf (right c) = 0
 unfoldable pub check : List ℕ → ℕ
 check s = checkOf (readSection s)
 
--- ---- "A public question finds the first descriptor of a tag in the closing list of a section that reads right."
+-- ---- What the reader answers: the refusal's number, or the section's head
+
+-- the first record: behind the header's seven bytes and the structure's head
+unfoldable pub recordsAt : Table → ℕ
+recordsAt Cds = 7
+recordsAt Mms = 7
+recordsAt Vcm = 7 + vcmHead .size
+recordsAt Dcm = 7 + dcmHead .size
+
+unfoldable pub countOf : Structure → ℕ
+countOf (carriers first rs) = length rs
+countOf (modes first rs) = length rs
+countOf (channels h rs) = length rs
+countOf (ranges h rs) = length rs
 
 -- bytes of a list of descriptors
 unfoldable pub sizeOf : List Descriptor → ℕ
 sizeOf [] = 0
 sizeOf (d ∷ ds) = 2 + length (d .body) + sizeOf ds
+
+-- of the section without its CRC: the closing list ends with these bytes, so it begins as many bytes before their end as it has
+unfoldable pub closingAt : List ℕ → List Descriptor → ℕ
+closingAt bs ds = length bs - sizeOf ds
+
+unfoldable pub headOf : List ℕ → Content → SectionHead
+headOf bs c =
+    record {
+      table = c .table;
+      map = c .map;
+      revision = c .revision;
+      records = recordsAt (c .table);
+      count = countOf (c .structure);
+      closing = closingAt bs (c .closing);
+    }
+
+unfoldable pub readAs : List ℕ → Reading → Read
+readAs s (wrong n) = Read.Refused n
+readAs s (right c) = Read.Right (headOf (withoutCrc s) c)
+
+-- ---- "A public question finds the first descriptor of a tag in the closing list of a section that reads right."
 
 -- in a list that begins at a place of the section; "it answers that there is none exactly when no such tag stands there"
 unfoldable pub firstOf : (tag at : ℕ) → List Descriptor → Asked
@@ -165,10 +208,9 @@ firstOf tag at [] = Asked.Absent
 firstOf tag at (d ∷ ds) =
     cond (eqb (d .tag) tag) (Asked.There (at + 2) (length (d .body))) (firstOf tag (at + 2 + length (d .body)) ds)
 
--- the closing list ends at the CRC, so it begins as many bytes before the CRC as it has
 unfoldable pub askedOf : (tag : ℕ) → List ℕ → Reading → Asked
 askedOf tag s (wrong n) = Asked.Refused n
-askedOf tag s (right c) = firstOf tag (length (withoutCrc s) - sizeOf (c .closing)) (c .closing)
+askedOf tag s (right c) = firstOf tag (closingAt (withoutCrc s) (c .closing)) (c .closing)
 
 unfoldable pub ask : (tag : ℕ) → List ℕ → Asked
 ask tag s = askedOf tag s (readSection s)

@@ -74,12 +74,15 @@ among x [] = false
 among x (y ∷ ys) = eqb x y || among x ys
 
 -- "System, inner coding and format must be assigned in Tables 5.7, 5.8 and 5.9 of 003; a value marked reserved there is
--- refused."
+-- refused." Of the formats 0 to 24 are assigned.
+unfoldable pub systems : List ℕ
+systems = 0 ∷ 2 ∷ 3 ∷ 4 ∷ []
+
+unfoldable pub innerCodings : List ℕ
+innerCodings = 0 ∷ 1 ∷ 3 ∷ 5 ∷ 7 ∷ 8 ∷ 9 ∷ 11 ∷ 15 ∷ []
+
 unfoldable pub assigned : Mode → Bool
-assigned m =
-    among (m .system) (0 ∷ 2 ∷ 3 ∷ 4 ∷ [])
-    && among (m .inner) (0 ∷ 1 ∷ 3 ∷ 5 ∷ 7 ∷ 8 ∷ 9 ∷ 11 ∷ 15 ∷ [])
-    && leb (m .format) 24
+assigned m = among (m .system) systems && among (m .inner) innerCodings && leb (m .format) 24
 
 -- refusal 10: unassigned mode value; an index above 255. "One index each."
 unfoldable pub modeFair : ℕ → Mode → Bool

@@ -77,6 +77,23 @@ pub struct Revision {
     pub last: u8,
 }
 
+// What a section that reads right is, for one who holds its bytes: its table and map number (0 where the table has none), its
+// revision, the place where its records begin and how many there are, and the place where its closing list begins.
+pub struct SectionHead {
+    pub table: Table,
+    pub map: u16,
+    pub revision: Revision,
+    pub records: usize,
+    pub count: u8,
+    pub closing: usize,
+}
+
+// What the reader answers to a section.
+pub enum Read {
+    Refused(u8),
+    Right(SectionHead),
+}
+
 // What the question for a descriptor of the closing list answers: the body begins at `start` and has `size` bytes.
 pub enum Asked {
     Refused(u8),

@@ -1,0 +1,43 @@
+-- What the code's answers about a closing list mean.
+use Prim.Native.Nat.{ℕ}
+use mathlib.Core.Bool.{Bool, true, false}
+use mathlib.Core.List.{List, [], _∷_}
+use lib.ListN.{take}
+use Rattle.rules.specs.Bytes.{Got, refused, got, andThen, from}
+use Rattle.rules.specs.Descriptors.{Descriptor, closing, bodies}
+use Rattle.rules.specs.Section.{revisionTag, revision, firstOf}
+use Rattle.rules.specs.declared.Revision.{Revision}
+use Rattle.rules.specs.declared.Asked.{Asked}
+use Rattle.rules.specs.declared.Asked.the-variants as asked
+use Rattle.section.specs.declared.closing.Closed.{Closed}
+use Rattle.section.specs.declared.closing.Closed.the-variants as closed
+use Rattle.section.specs.declared.closing.Seen.{Seen}
+use Rattle.section.specs.declared.closing.Seen.the-variants.{Nothing, Once, Again}
+
+unfoldable pub closedAs : Got Revision → Closed
+closedAs (refused n) = closed.Refused n
+closedAs (got r rest) = closed.Revised r
+
+-- the closing list, and then its revision
+unfoldable pub closedOf : List ℕ → Got Revision
+closedOf bs = andThen (closing bs) (λ ds end. revision (bodies revisionTag ds))
+
+-- the bodies met so far; of two or more any two will do
+unfoldable pub seenOf : List ℕ → Seen → List (List ℕ)
+seenOf b Nothing = []
+seenOf b (Once start size) = take size (from b start) ∷ []
+seenOf b Again = [] ∷ [] ∷ []
+
+unfoldable pub seenWith : Seen → ℕ → ℕ → Seen
+seenWith Nothing start size = Once start size
+seenWith (Once s n) start size = Again
+seenWith Again start size = Again
+
+-- a closing list that fills its room
+unfoldable pub listed : {A : Type 0} → Got A → Bool
+listed (refused n) = false
+listed (got a rest) = true
+
+unfoldable pub firstIn : (tag at : ℕ) → Got (List Descriptor) → Asked
+firstIn tag at (refused n) = asked.Refused n
+firstIn tag at (got ds rest) = firstOf tag at ds

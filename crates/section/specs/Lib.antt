@@ -1,0 +1,4 @@
+pub mod Place
+pub mod Kinds
+pub mod Closes
+pub mod Reads

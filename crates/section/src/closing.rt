@@ -1,0 +1,117 @@
+// The closing list: its revision, and the first descriptor of a tag in it.
+ghost use mathlib.Core.Path.{_≡_};
+ghost use mathlib.Core.Bool.{true};
+ghost use mathlib.Core.List.{[], _∷_};
+ghost use Prim.Native.Nat.{ℕ, _≤_};
+ghost use lib.ListN.{length};
+ghost use Rattle.rules.specs.Bytes.{from};
+ghost use Rattle.rules.specs.Descriptors.{closing};
+ghost use Rattle.rules.specs.Section.{revision};
+ghost use Rattle.section.specs.Closes.{closedAs, closedOf, seenOf, seenWith, listed, firstIn};
+use crate::bytes;
+use crate::descriptors;
+use crate::descriptors::Skip;
+use rules::Asked;
+use rules::Revision;
+
+pub enum Closed {
+    Refused(u8),
+    Revised(Revision),
+}
+
+// The revision descriptors met so far; of a single one, where its body is.
+pub enum Seen {
+    Nothing,
+    Once { start: usize, size: usize },
+    Again,
+}
+
+// One more, with its body.
+fn seen_with(seen: Seen, start: usize, size: usize) -> Seen
+    ensures { λ r. ⌜ r ≡ seenWith seen start size ⌝ }
+{
+    match seen {
+        Seen::Nothing => Seen::Once { start, size },
+        Seen::Once { start: _, size: _ } => Seen::Again,
+        Seen::Again => Seen::Again,
+    }
+}
+
+// What a single revision descriptor says by its body.
+fn revised(body: &[u8]) -> Closed
+    ensures { λ r. ⌜ r ≡ closedAs (revision (now (body .entry) ∷ [])) ⌝ }
+{
+    if body.len() < 3 {
+        return Closed::Refused(11);
+    }
+    let version = bytes::byte(body, 0) % 32;
+    let number = bytes::byte(body, 1);
+    let last = bytes::byte(body, 2);
+    if last < number {
+        return Closed::Refused(11);
+    }
+    Closed::Revised(Revision {
+        version,
+        number,
+        last,
+    })
+}
+
+fn judged(b: &[u8], seen: Seen) -> Closed
+    ensures { λ r. ⌜ r ≡ closedAs (revision (seenOf (now (b .entry)) seen)) ⌝ }
+{
+    match seen {
+        Seen::Nothing => Closed::Refused(11),
+        Seen::Once { start, size } => revised(bytes::part(b, start, size)),
+        Seen::Again => Closed::Refused(11),
+    }
+}
+
+// The closing list from a place on, up to the end: 8 where it doesn't fill the room, then its revision, 11.
+pub fn close(b: &[u8], start: usize) -> Closed
+    ensures { λ r. ⌜ r ≡ closedAs (closedOf (from (now (b .entry)) start)) ⌝ }
+{
+    let mut at = start;
+    let mut seen = Seen::Nothing;
+    while at < b.len() {
+        let next = descriptors::past_one(b, at);
+        match next {
+            Skip::At(i) => {
+                if b[at] == 0x93 {
+                    seen = seen_with(seen, at + 2, bytes::byte(b, at + 1) as usize);
+                }
+                at = i;
+            }
+            Skip::Refused(n) => {
+                return Closed::Refused(n);
+            }
+        }
+    }
+    judged(b, seen)
+}
+
+// The first descriptor of a tag in a closing list that is whole.
+pub fn first_of(b: &[u8], start: usize, tag: u8) -> Asked
+    requires { ⌜ listed (closing (from (now b) start)) ≡ true ⌝ }
+    ensures { λ r. ⌜ r ≡ firstIn tag start (closing (from (now (b .entry)) start)) ⌝ }
+{
+    let mut at = start;
+    while at < b.len() {
+        let next = descriptors::past_one(b, at);
+        match next {
+            Skip::At(i) => {
+                if b[at] == tag {
+                    return Asked::There {
+                        start: at + 2,
+                        size: bytes::byte(b, at + 1) as usize,
+                    };
+                }
+                at = i;
+            }
+            Skip::Refused(n) => {
+                return Asked::Refused(n);
+            }
+        }
+    }
+    Asked::Absent
+}

@@ -1,0 +1,248 @@
+// One section: what it reads as, refusals 3 to 11, and the question for a descriptor of its closing list.
+ghost use mathlib.Core.Bool.{_||_};
+ghost use mathlib.Core.Path.{_≡_};
+ghost use Prim.Native.Nat.{ℕ, _≤_};
+ghost use lib.Dec.{eqb};
+ghost use lib.ListN.{length};
+ghost use Rattle.rules.specs.Bytes.{from};
+ghost use Rattle.rules.specs.Section.{fitting, lengthOf, mediumAt, named, headerWhole, header, mapOf, contentOf, content, withoutCrc, whole, readSection, readAs, ask, partOf};
+ghost use Rattle.section.specs.Reads.{namedAs, headerAs, Tells};
+use closing::Closed;
+use descriptors::Skip;
+use rules::Asked;
+use rules::Read;
+use rules::SectionHead;
+use rules::Table;
+use structure::Outline;
+
+mod bytes; // bytes and parts of a slice
+mod descriptors; // passing over descriptors
+pub mod carriers; // the CDS record
+pub mod modes; // the MMS record
+pub mod channels; // the VCM's head and channel record
+pub mod ranges; // the DCM's head and range byte
+mod structure; // the records of every table
+mod closing; // the closing list
+
+// The table that a header names, or its refusal.
+pub enum Header {
+    Refused(u8),
+    Names(Table),
+}
+
+enum Named {
+    Nothing,
+    Table(Table),
+}
+
+// L, which counts all that follows the first three bytes.
+fn length_of(s: &[u8]) -> u16
+    ensures { λ r. ⌜ r ≡ lengthOf (now (s .entry)) ⌝ }
+{
+    let high = bytes::byte(s, 1);
+    let low = bytes::byte(s, 2);
+    (high % 16) as u16 * 256 + low as u16
+}
+
+fn is_fitting(s: &[u8]) -> bool
+    ensures { λ r. ⌜ r ≡ fitting (now (s .entry)) ⌝ }
+{
+    if s.len() < 8 {
+        return false;
+    }
+    let l = length_of(s);
+    if s.len() != 3 + l as usize {
+        return false;
+    }
+    l <= 1021
+}
+
+fn is_table_number(number: u8) -> bool
+    ensures { λ r. ⌜ r ≡ (eqb number 0xC2 || eqb number 0xC4) ⌝ }
+{
+    if number == 0xC2 {
+        return true;
+    }
+    number == 0xC4
+}
+
+// The table that a table number and the byte of medium and subtype name.
+fn table_named(number: u8, medium: u8) -> Named
+    ensures { λ r. ⌜ r ≡ namedAs (named number medium) ⌝ }
+{
+    if number == 0xC2 {
+        if medium == 1 {
+            return Named::Table(Table::Cds);
+        }
+        if medium == 2 {
+            return Named::Table(Table::Mms);
+        }
+        return Named::Nothing;
+    }
+    if medium == 0 {
+        return Named::Table(Table::Vcm);
+    }
+    if medium == 1 {
+        return Named::Table(Table::Dcm);
+    }
+    Named::Nothing
+}
+
+// The header whole, once its table is known: 8 before 9 before 10.
+fn header_whole(t: Table, b: &[u8]) -> Header
+    ensures { λ r. ⌜ r ≡ headerAs (headerWhole t (now (b .entry))) ⌝ }
+{
+    let number = bytes::byte(b, 0);
+    let high = bytes::byte(b, 1);
+    let protocol = bytes::byte(b, 3);
+    if b.len() < 7 {
+        return Header::Refused(8);
+    }
+    if high / 64 != 0 {
+        return Header::Refused(9);
+    }
+    if protocol / 32 != 0 {
+        return Header::Refused(9);
+    }
+    if number == 0xC4 {
+        return Header::Names(t);
+    }
+    if bytes::byte(b, 4) < 1 {
+        return Header::Refused(10);
+    }
+    Header::Names(t)
+}
+
+fn medium_at(b: &[u8]) -> usize
+    ensures { λ r. ⌜ r ≡ mediumAt (now (b .entry)) ⌝ }
+{
+    if bytes::byte(b, 0) == 0xC2 {
+        return 6;
+    }
+    4
+}
+
+// The header of a section without its CRC.
+fn header_of(b: &[u8]) -> Header
+    ensures { λ r. ⌜ r ≡ headerAs (header (now (b .entry))) ⌝ }
+{
+    let at = medium_at(b);
+    if b.len() <= at {
+        return Header::Refused(8);
+    }
+    let name = table_named(bytes::byte(b, 0), bytes::byte(b, at));
+    match name {
+        Named::Nothing => Header::Refused(7),
+        Named::Table(t) => header_whole(t, b),
+    }
+}
+
+// The map number of 0xC4, or 0.
+fn map_of(b: &[u8]) -> u16
+    ensures { λ r. ⌜ r ≡ mapOf (now (b .entry)) ⌝ }
+{
+    let number = bytes::byte(b, 0);
+    let high = bytes::byte(b, 5);
+    let low = bytes::byte(b, 6);
+    if number == 0xC4 {
+        return high as u16 * 256 + low as u16;
+    }
+    0
+}
+
+// Behind the header: the structure, then the closing list.
+fn structured(t: Table, b: &[u8]) -> Read
+    requires { ⌜ 7 ≤ length (now b) ⌝ }
+    ensures { λ r. ⌜ Tells (now (b .entry)) r (contentOf t (now (b .entry))) ⌝ }
+{
+    let outline = structure::outline_of(t, b);
+    match outline {
+        Outline::Refused(n) => Read::Refused(n),
+        Outline::Records {
+            kind,
+            start,
+            first,
+            count,
+        } => {
+            let end = structure::past_records(kind, b, start, first, count);
+            match end {
+                Skip::Refused(n) => Read::Refused(n),
+                Skip::At(at) => {
+                    let closed = closing::close(b, at);
+                    match closed {
+                        Closed::Refused(n) => Read::Refused(n),
+                        Closed::Revised(revision) => Read::Right(SectionHead {
+                            table: t,
+                            map: map_of(b),
+                            revision,
+                            records: start,
+                            count,
+                            closing: at,
+                        }),
+                    }
+                }
+            }
+        }
+    }
+}
+
+// The section without its CRC, front to back.
+fn content_of(b: &[u8]) -> Read
+    ensures { λ r. ⌜ Tells (now (b .entry)) r (content (now (b .entry))) ⌝ }
+{
+    let header = header_of(b);
+    match header {
+        Header::Refused(n) => Read::Refused(n),
+        Header::Names(t) => structured(t, b),
+    }
+}
+
+// Refusals 3 to 6, then the content.
+fn read_whole(s: &[u8]) -> Read
+    ensures { λ r. ⌜ Tells (withoutCrc (now (s .entry))) r (whole (now (s .entry))) ⌝ }
+{
+    if is_fitting(s) {
+        if is_table_number(bytes::byte(s, 0)) {
+            if crc::crc(s) != 0 {
+                return Read::Refused(5);
+            }
+            if bytes::byte(s, 3) % 32 != 0 {
+                return Read::Refused(6);
+            }
+            return content_of(&s[..s.len() - 4]);
+        }
+        return Read::Refused(4);
+    }
+    Read::Refused(3)
+}
+
+// What a section reads as: the number of its refusal, or its head.
+pub fn read_section(section: &[u8]) -> Read
+    ensures { λ r. ⌜ r ≡ readAs (now (section .entry)) (readSection (now (section .entry))) ⌝ }
+{
+    read_whole(section)
+}
+
+// Where in a section the body of the first descriptor of a tag in its closing list stands, if the section reads right and
+// there is one.
+pub fn ask_descriptor(section: &[u8], tag: u8) -> Asked
+    ensures { λ r. ⌜ r ≡ ask tag (now (section .entry)) ⌝ }
+{
+    let read = read_whole(section);
+    match read {
+        Read::Refused(n) => Asked::Refused(n),
+        Read::Right(h) => closing::first_of(&section[..section.len() - 4], h.closing, tag),
+    }
+}
+
+// That body as a part of the section itself; an empty part where there is none, which ask_descriptor tells from an empty body.
+pub fn find_descriptor(section: &[u8], tag: u8) -> &[u8]
+    ensures { λ r. ⌜ now r ≡ partOf (now (section .entry)) (ask tag (now (section .entry))) ⌝ }
+{
+    let asked = ask_descriptor(section, tag);
+    match asked {
+        Asked::Refused(_) => &section[..0],
+        Asked::Absent => &section[..0],
+        Asked::There { start, size } => bytes::part(section, start, size),
+    }
+}
