@@ -16,13 +16,13 @@ use Rattle.rules.specs.declared.Revision.{Revision}
 use Rattle.rules.specs.declared.Asked.the-variants as asked
 use Rattle.rules.proofs.Taken.{unless-got}
 use Rattle.rules.proofs.Closing.{closing-end, closing-got, closing-no}
-use Rattle.section.specs.Place.{Stands}
+use Rattle.records.specs.Place.{Stands}
 use Rattle.section.specs.Closes.{closedOf, seenOf, seenWith, listed, firstIn}
-use Rattle.section.specs.declared.descriptors.Skip.{Skip}
-use Rattle.section.specs.declared.descriptors.Skip.the-variants.{At, Refused}
+use Rattle.records.specs.declared.descriptors.Skip.{Skip}
+use Rattle.records.specs.declared.descriptors.Skip.the-variants.{At, Refused}
 use Rattle.section.specs.declared.closing.Seen.{Seen}
 use Rattle.section.specs.declared.closing.Seen.the-variants.{Nothing, Once, Again}
-use Rattle.section.proofs.Laws.{from-from, from-length, at-in, at-got, at-no, descAt}
+use Rattle.records.proofs.Laws.{from-from, from-length, at-in, at-got, at-no, descAt}
 
 byte-from : (b : List ℕ) (at j : ℕ) → byte j (from b at) ≡ byte (at + j) b
 unfolding byte from

@@ -16,9 +16,9 @@ use Rattle.rules.specs.declared.Table.the-variants.{Cds, Mms, Vcm, Dcm}
 use Rattle.rules.specs.declared.VcmHead.{VcmHead}
 use Rattle.rules.specs.declared.DcmHead.{DcmHead}
 use Rattle.rules.proofs.Taken.{giving-got, records-count}
-use Rattle.section.specs.Place.{Stands}
+use Rattle.records.specs.Place.{Stands}
 use Rattle.section.specs.Kinds.{RecordOf, layoutOf, Area, outlined, Outlines}
-use Rattle.section.specs.declared.descriptors.Skip.{Skip}
+use Rattle.records.specs.declared.descriptors.Skip.{Skip}
 use Rattle.section.specs.declared.structure.Outline.{Outline}
 use Rattle.section.specs.declared.structure.Outline.the-variants as outline
 use Rattle.section.specs.declared.structure.Kind.{Kind}

@@ -25,7 +25,7 @@ use Rattle.section.specs.Reads.{namedAs, headerAs, Listed, shown, Tells}
 use Rattle.section.specs.declared.Named.the-variants as named
 use Rattle.section.specs.declared.Header.the-variants as header
 use Rattle.section.specs.declared.closing.Closed.the-variants as closed
-use Rattle.section.proofs.Laws.{from-length}
+use Rattle.records.proofs.Laws.{from-length}
 
 -- ---- the header
 

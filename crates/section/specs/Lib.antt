@@ -1,4 +1,3 @@
-pub mod Place
 pub mod Kinds
 pub mod Closes
 pub mod Reads

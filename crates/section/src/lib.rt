@@ -8,19 +8,14 @@ ghost use Rattle.rules.specs.Bytes.{from};
 ghost use Rattle.rules.specs.Section.{fitting, lengthOf, mediumAt, named, headerWhole, header, mapOf, contentOf, content, withoutCrc, whole, readSection, readAs, ask, partOf};
 ghost use Rattle.section.specs.Reads.{namedAs, headerAs, Tells};
 use closing::Closed;
-use descriptors::Skip;
+use records::bytes;
+use records::descriptors::Skip;
 use rules::Asked;
 use rules::Read;
 use rules::SectionHead;
 use rules::Table;
 use structure::Outline;
 
-mod bytes; // bytes and parts of a slice
-mod descriptors; // passing over descriptors
-pub mod carriers; // the CDS record
-pub mod modes; // the MMS record
-pub mod channels; // the VCM's head and channel record
-pub mod ranges; // the DCM's head and range byte
 mod structure; // the records of every table
 mod closing; // the closing list
 

@@ -4,15 +4,15 @@ ghost use Prim.Native.Nat.{ℕ, _≤_};
 ghost use lib.ListN.{length, take};
 ghost use Rattle.rules.specs.Bytes.{from};
 ghost use Rattle.rules.specs.Layout.{entry, records};
-ghost use Rattle.section.specs.Place.{Stands};
+ghost use Rattle.records.specs.Place.{Stands};
 ghost use Rattle.section.specs.Kinds.{layoutOf, Outlines};
 ghost use Rattle.rules.specs.declared.Table.the-variants as table;
-use crate::bytes;
-use crate::carriers;
-use crate::channels;
-use crate::descriptors::Skip;
-use crate::modes;
-use crate::ranges;
+use records::bytes;
+use records::carriers;
+use records::channels;
+use records::descriptors::Skip;
+use records::modes;
+use records::ranges;
 use rules::Table;
 
 // The layouts of records; of a channel record, with descriptors-included.

@@ -6,7 +6,7 @@ use Rattle.section.proofs.find_descriptor.Tie as tie
 use Rattle.section.proofs.find_descriptor.Reads as reads
 use Rattle.section.proofs.find_descriptor.Lts as lts
 use Rattle.section.proofs.ask_descriptor.Reads as ask-descriptor-reads
-use Rattle.section.proofs.bytes.part.Reads as part-reads
+use Rattle.records.proofs.bytes.part.Reads as part-reads
 
 -- src/lib.rt:240:9
 ask-descriptor-requires : tie.Need-ask-descriptor-requires

@@ -7,7 +7,7 @@ use Rattle.section.proofs.header_of.Statement.{statement}
 use Rattle.section.proofs.header_of.Tie as tie
 use Rattle.section.proofs.header_of.Reads as reads
 use Rattle.section.proofs.header_of.Lts as lts
-use Rattle.section.proofs.bytes.byte.Reads as byte-reads
+use Rattle.records.proofs.bytes.byte.Reads as byte-reads
 use Rattle.section.proofs.header_whole.Reads as header-whole-reads
 use Rattle.section.proofs.medium_at.Reads as medium-at-reads
 use Rattle.section.proofs.table_named.Reads as table-named-reads

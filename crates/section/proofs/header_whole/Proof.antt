@@ -7,7 +7,7 @@ use Rattle.section.proofs.header_whole.Statement.{statement}
 use Rattle.section.proofs.header_whole.Tie as tie
 use Rattle.section.proofs.header_whole.Reads as reads
 use Rattle.section.proofs.header_whole.Lts as lts
-use Rattle.section.proofs.bytes.byte.Reads as byte-reads
+use Rattle.records.proofs.bytes.byte.Reads as byte-reads
 
 -- src/lib.rt:84:9
 byte-requires : tie.Need-byte-requires

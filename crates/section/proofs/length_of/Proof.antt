@@ -4,7 +4,7 @@ use Rattle.section.proofs.length_of.Statement.{statement}
 use Rattle.section.proofs.length_of.Tie as tie
 use Rattle.section.proofs.length_of.Reads as reads
 use Rattle.section.proofs.length_of.Lts as lts
-use Rattle.section.proofs.bytes.byte.Reads as byte-reads
+use Rattle.records.proofs.bytes.byte.Reads as byte-reads
 
 -- src/lib.rt:40:9
 byte-requires : tie.Need-byte-requires

@@ -5,7 +5,7 @@ use Rattle.section.proofs.map_of.Statement.{statement}
 use Rattle.section.proofs.map_of.Tie as tie
 use Rattle.section.proofs.map_of.Reads as reads
 use Rattle.section.proofs.map_of.Lts as lts
-use Rattle.section.proofs.bytes.byte.Reads as byte-reads
+use Rattle.records.proofs.bytes.byte.Reads as byte-reads
 
 -- src/lib.rt:139:9
 byte-requires : tie.Need-byte-requires

@@ -5,7 +5,7 @@ use Rattle.section.proofs.medium_at.Statement.{statement}
 use Rattle.section.proofs.medium_at.Tie as tie
 use Rattle.section.proofs.medium_at.Reads as reads
 use Rattle.section.proofs.medium_at.Lts as lts
-use Rattle.section.proofs.bytes.byte.Reads as byte-reads
+use Rattle.records.proofs.bytes.byte.Reads as byte-reads
 
 -- src/lib.rt:108:8
 byte-requires : tie.Need-byte-requires

@@ -10,7 +10,7 @@ use Rattle.section.proofs.read_whole.Tie as tie
 use Rattle.section.proofs.read_whole.Reads as reads
 use Rattle.section.proofs.read_whole.Lts as lts
 use Rattle.crc.proofs.crc.Reads as crc-reads
-use Rattle.section.proofs.bytes.byte.Reads as byte-reads
+use Rattle.records.proofs.bytes.byte.Reads as byte-reads
 use Rattle.section.proofs.content_of.Reads as content-of-reads
 use Rattle.section.proofs.is_fitting.Reads as is-fitting-reads
 use Rattle.section.proofs.is_table_number.Reads as is-table-number-reads

@@ -1,5 +1,5 @@
 use mathlib.Core.Path.{sym, ap, _∙_}
-use Rattle.section.proofs.Laws.{at-in, at-got, at-no}
+use Rattle.records.proofs.Laws.{at-in, at-got, at-no}
 use Rattle.section.proofs.Walks.{outlined-no, outlined-area, area-no, area-so}
 use Rattle.section.proofs.Whole.{tells-no, content-no, content-unclosed, content-so}
 use borrow.Author.Needs.{needs}

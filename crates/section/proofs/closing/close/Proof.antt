@@ -5,16 +5,16 @@ use mathlib.Core.Path.{_≡_, sym, ap, _∙_}
 use lib.ListN.{length}
 use Rattle.rules.specs.Bytes.{byte, from}
 use Rattle.section.specs.Closes.{closedAs, closedOf}
-use Rattle.section.proofs.Laws.{at-no}
+use Rattle.records.proofs.Laws.{at-no}
 use Rattle.section.proofs.Lists.{here, closedWith, close-begin, close-end, close-no, close-pass, close-seen}
 use Rattle.section.proofs.closing.close.Statement.{statement}
 use Rattle.section.proofs.closing.close.Tie as tie
 use Rattle.section.proofs.closing.close.Reads as reads
 use Rattle.section.proofs.closing.close.Lts as lts
-use Rattle.section.proofs.bytes.byte.Reads as byte-reads
+use Rattle.records.proofs.bytes.byte.Reads as byte-reads
 use Rattle.section.proofs.closing.judged.Reads as judged-reads
 use Rattle.section.proofs.closing.seen_with.Reads as seen-with-reads
-use Rattle.section.proofs.descriptors.past_one.Reads as past-one-reads
+use Rattle.records.proofs.descriptors.past_one.Reads as past-one-reads
 
 abbrev Inv-loop : tie.InvT-loop
 Inv-loop b start at₀ seen₀ at seen = closedOf (from b start) ≡ closedWith b seen (from b at)

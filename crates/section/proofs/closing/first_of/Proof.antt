@@ -7,14 +7,14 @@ use lib.ListN.{length}
 use Rattle.rules.specs.Bytes.{byte, from}
 use Rattle.rules.specs.Descriptors.{closing}
 use Rattle.section.specs.Closes.{listed, firstIn}
-use Rattle.section.proofs.Laws.{at-no}
+use Rattle.records.proofs.Laws.{at-no}
 use Rattle.section.proofs.Lists.{here, first-end, first-never, first-here, first-pass, listed-on}
 use Rattle.section.proofs.closing.first_of.Statement.{statement}
 use Rattle.section.proofs.closing.first_of.Tie as tie
 use Rattle.section.proofs.closing.first_of.Reads as reads
 use Rattle.section.proofs.closing.first_of.Lts as lts
-use Rattle.section.proofs.bytes.byte.Reads as byte-reads
-use Rattle.section.proofs.descriptors.past_one.Reads as past-one-reads
+use Rattle.records.proofs.bytes.byte.Reads as byte-reads
+use Rattle.records.proofs.descriptors.past_one.Reads as past-one-reads
 
 abbrev Inv-loop : tie.InvT-loop
 Inv-loop b start tag at₀ at = (listed (closing (from b at)) ≡ true) × (firstIn tag start (closing (from b start)) ≡ firstIn tag at (closing (from b at)))

@@ -5,7 +5,7 @@ use Rattle.section.proofs.closing.judged.Statement.{statement}
 use Rattle.section.proofs.closing.judged.Tie as tie
 use Rattle.section.proofs.closing.judged.Reads as reads
 use Rattle.section.proofs.closing.judged.Lts as lts
-use Rattle.section.proofs.bytes.part.Reads as part-reads
+use Rattle.records.proofs.bytes.part.Reads as part-reads
 use Rattle.section.proofs.closing.revised.Reads as revised-reads
 
 -- src/closing.rt:64:26

@@ -7,7 +7,7 @@ use Rattle.section.proofs.closing.revised.Statement.{statement}
 use Rattle.section.proofs.closing.revised.Tie as tie
 use Rattle.section.proofs.closing.revised.Reads as reads
 use Rattle.section.proofs.closing.revised.Lts as lts
-use Rattle.section.proofs.bytes.byte.Reads as byte-reads
+use Rattle.records.proofs.bytes.byte.Reads as byte-reads
 
 -- src/closing.rt:45:9
 returns : tie.Need-returns

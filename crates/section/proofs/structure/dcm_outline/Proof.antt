@@ -1,17 +1,17 @@
 use native.Mathlib.Omega.{arith}
 use mathlib.Core.Path.{refl}
 use Rattle.rules.specs.Tables.{dcmHead}
-use Rattle.section.proofs.Laws.{bare-short, bare-zeros, bare-here, head-no, head-so}
+use Rattle.records.proofs.Laws.{bare-short, bare-zeros, bare-here, head-no, head-so}
 use Rattle.section.proofs.Walks.{dcm-no, dcm-area}
 use borrow.Author.Needs.{needs}
 use Rattle.section.proofs.structure.dcm_outline.Statement.{statement}
 use Rattle.section.proofs.structure.dcm_outline.Tie as tie
 use Rattle.section.proofs.structure.dcm_outline.Reads as reads
 use Rattle.section.proofs.structure.dcm_outline.Lts as lts
-use Rattle.section.proofs.bytes.part.Reads as part-reads
-use Rattle.section.proofs.bytes.room.Reads as room-reads
-use Rattle.section.proofs.ranges.dcm_head_of.Reads as dcm-head-of-reads
-use Rattle.section.proofs.ranges.dcm_head_zeros.Reads as dcm-head-zeros-reads
+use Rattle.records.proofs.bytes.part.Reads as part-reads
+use Rattle.records.proofs.bytes.room.Reads as room-reads
+use Rattle.records.proofs.ranges.dcm_head_of.Reads as dcm-head-of-reads
+use Rattle.records.proofs.ranges.dcm_head_zeros.Reads as dcm-head-zeros-reads
 
 -- src/structure.rt:115:8
 room-requires : tie.Need-room-requires

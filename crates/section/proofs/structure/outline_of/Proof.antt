@@ -6,7 +6,7 @@ use Rattle.section.proofs.structure.outline_of.Statement.{statement}
 use Rattle.section.proofs.structure.outline_of.Tie as tie
 use Rattle.section.proofs.structure.outline_of.Reads as reads
 use Rattle.section.proofs.structure.outline_of.Lts as lts
-use Rattle.section.proofs.bytes.byte.Reads as byte-reads
+use Rattle.records.proofs.bytes.byte.Reads as byte-reads
 use Rattle.section.proofs.structure.dcm_outline.Reads as dcm-outline-reads
 use Rattle.section.proofs.structure.vcm_outline.Reads as vcm-outline-reads
 

@@ -5,9 +5,9 @@ use mathlib.Core.Path.{_≡_, refl, sym, _∙_}
 use lib.ListN.{length}
 use Rattle.rules.specs.Bytes.{from}
 use Rattle.rules.specs.Layout.{records}
-use Rattle.section.specs.Place.{leftOf}
+use Rattle.records.specs.Place.{leftOf}
 use Rattle.section.specs.Kinds.{layoutOf}
-use Rattle.section.proofs.Laws.{at-in, turn, turn-fair, stop}
+use Rattle.records.proofs.Laws.{at-in, turn, turn-fair, stop}
 use Rattle.section.proofs.Walks.{top}
 use Rattle.section.proofs.structure.past_records.Statement.{statement}
 use Rattle.section.proofs.structure.past_records.Tie as tie

@@ -6,10 +6,10 @@ use Rattle.section.proofs.structure.step.Statement.{statement}
 use Rattle.section.proofs.structure.step.Tie as tie
 use Rattle.section.proofs.structure.step.Reads as reads
 use Rattle.section.proofs.structure.step.Lts as lts
-use Rattle.section.proofs.carriers.carriers_step.Reads as carriers-step-reads
-use Rattle.section.proofs.channels.channel_step.Reads as channel-step-reads
-use Rattle.section.proofs.modes.mode_step.Reads as mode-step-reads
-use Rattle.section.proofs.ranges.range_step.Reads as range-step-reads
+use Rattle.records.proofs.carriers.carriers_step.Reads as carriers-step-reads
+use Rattle.records.proofs.channels.channel_step.Reads as channel-step-reads
+use Rattle.records.proofs.modes.mode_step.Reads as mode-step-reads
+use Rattle.records.proofs.ranges.range_step.Reads as range-step-reads
 
 -- src/structure.rt:41:27
 enum-told : tie.Need-enum-told

@@ -5,9 +5,9 @@ use Rattle.section.proofs.structure.takes.Statement.{statement}
 use Rattle.section.proofs.structure.takes.Tie as tie
 use Rattle.section.proofs.structure.takes.Reads as reads
 use Rattle.section.proofs.structure.takes.Lts as lts
-use Rattle.section.proofs.bytes.part.Reads as part-reads
-use Rattle.section.proofs.carriers.carriers_of.Reads as carriers-of-reads
-use Rattle.section.proofs.ranges.range_of.Reads as range-of-reads
+use Rattle.records.proofs.bytes.part.Reads as part-reads
+use Rattle.records.proofs.carriers.carriers_of.Reads as carriers-of-reads
+use Rattle.records.proofs.ranges.range_of.Reads as range-of-reads
 
 -- src/structure.rt:54:43
 enum-told : tie.Need-enum-told

@@ -1,0 +1,27 @@
+// Passing over one descriptor. b is a section without its CRC, so what runs past b runs into the CRC: refusal 8.
+ghost use mathlib.Core.Path.{_≡_};
+ghost use Rattle.rules.specs.Bytes.{from};
+ghost use Rattle.rules.specs.Descriptors.{descriptor};
+ghost use Rattle.records.specs.Place.{Stands};
+use crate::bytes;
+
+// A place in the bytes, or the number of a refusal.
+pub enum Skip {
+    At(usize),
+    Refused(u8),
+}
+
+// Behind the descriptor at a place.
+pub fn past_one(b: &[u8], at: usize) -> Skip
+    ensures { λ r. ⌜ Stands (now (b .entry)) r (descriptor (from (now (b .entry)) at)) ⌝ }
+{
+    let room = bytes::room(b, at);
+    if room < 2 {
+        return Skip::Refused(8);
+    }
+    let n = b[at + 1] as usize;
+    if room - 2 < n {
+        return Skip::Refused(8);
+    }
+    Skip::At(at + 2 + n)
+}
