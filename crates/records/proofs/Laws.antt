@@ -11,7 +11,7 @@ use borrow.Author.Tests.{le-leb, lt-leb}
 use Rattle.rules.specs.Bytes.{Got, refused, got, unless, andThen, giving, byte, from}
 use Rattle.rules.specs.Descriptors.{Descriptor, descriptor, passed, counted}
 use Rattle.rules.specs.Layout.{Layout, Numbered, numbered, bare, entry, after, records, head}
-use Rattle.rules.proofs.Taken.{Taken, taken, bare-so}
+use Rattle.rules.proofs.Taken.{taken, bare-so}
 use Rattle.records.specs.Place.{Left, left, no, leftOf, leftAt, inside, Stands}
 use Rattle.records.specs.declared.descriptors.Skip.{Skip}
 use Rattle.records.specs.declared.descriptors.Skip.the-variants.{At, Refused}
@@ -191,3 +191,14 @@ module _ {R : Type 0} (l : Layout R) (b : List ℕ) (at index : ℕ) (r : Skip) 
   unfolding records andThen leftOf
   stop n zero w h e q = absurd (omega arith)
   stop n (suc m) w h e q = sym (q ∙ rw (at-no b r _ s n e))
+
+-- ---- a promise by places leaves one answer
+
+same-place : (b : List ℕ) (i j : ℕ) → i ≤ length b → j ≤ length b → from b i ≡ from b j → i ≡ j
+same-place b i j h k e = omega (arith, from-length b i, from-length b j, ap length e)
+
+pub stands-once : {A : Type 0} (b : List ℕ) (r q : Skip) (g : Got A) → Stands b r g → Stands b q g → r ≡ q
+stands-once b (At i) (At j) g s t = let e : from b i ≡ from b j = cc in ap At (same-place b i j (s .within) (t .within) e)
+stands-once b (At i) (Refused n) g s t = let z : _≡_ {A = ℕ} 0 1 = cc in absurd (omega arith)
+stands-once b (Refused m) (At j) g s t = let z : _≡_ {A = ℕ} 0 1 = cc in absurd (omega arith)
+stands-once b (Refused m) (Refused n) g s t = cc

@@ -1,5 +1,4 @@
 // Passing over one descriptor. b is a section without its CRC, so what runs past b runs into the CRC: refusal 8.
-ghost use mathlib.Core.Path.{_≡_};
 ghost use Rattle.rules.specs.Bytes.{from};
 ghost use Rattle.rules.specs.Descriptors.{descriptor};
 ghost use Rattle.records.specs.Place.{Stands};

@@ -2,7 +2,7 @@
 ghost use mathlib.Core.Path.{_≡_};
 ghost use Rattle.rules.specs.Bytes.{from};
 ghost use Rattle.rules.specs.Layout.{entry};
-ghost use Rattle.rules.specs.Tables.{modeZeros, modeOf, among, systems, innerCodings, assigned, modeFair, mms};
+ghost use Rattle.rules.specs.Tables.{modeZeros, modeOf, among, systems, innerCodings, modeFair, mms};
 ghost use Rattle.records.specs.Place.{Stands};
 use crate::bytes;
 use crate::counted;

@@ -1,13 +1,13 @@
 -- The closing list, one descriptor at a time and with no bound in sight; and how many bytes it has.
 use Prim.Native.Nat.{ℕ, zero, suc, _+_, _-_, _≤_, _<_}
 use native.Mathlib.Omega.{arith}
-use mathlib.Core.Path.{_≡_, refl, sym, ap, _∙_}
+use mathlib.Core.Path.{_≡_, refl, ap, _∙_}
 use mathlib.Core.Bool.{Bool, true, false, cond}
 use mathlib.Core.List.{List, [], _∷_}
 use lib.ListN.{length, take, length-take, length-drop}
 use lib.Dec.{eqb}
 use borrow.Author.Tests.{leb-true, eqb-true, eq-eqb, ne-eqb}
-use Rattle.rules.specs.Bytes.{Got, refused, got, unless, andThen, giving, byte, from}
+use Rattle.rules.specs.Bytes.{Got, refused, got, andThen, giving, byte, from}
 use Rattle.rules.specs.Descriptors.{Descriptor, descriptor, filling, closing}
 use Rattle.rules.specs.Section.{sizeOf}
 use Rattle.rules.proofs.Taken.{unless-got, then-got, giving-got}

@@ -9,7 +9,7 @@ use mathlib.Core.List.{List, [], _∷_, _++_, map}
 use lib.ListN.{length, replicate}
 use Rattle.rules.specs.Layout.{Numbered}
 use Rattle.rules.specs.Tables.{carriersOf, modeOf, channelOf, rangeOf}
-use Rattle.rules.specs.Section.{check, ask}
+use Rattle.rules.specs.Section.{check, ask, partOf}
 use Rattle.rules.specs.Holding.{noneLive, noneGathered, freshHolding, fresh, liveFormed, gatheredFormed, placeOf, storeSize, stepOf, offered, gatheredAt}
 use Rattle.rules.specs.Tuning.{Plant, lookUp, tune}
 use Rattle.rules.specs.Lineup.{text, sectionsOf, refusals, channelLine, lineup}
@@ -169,6 +169,11 @@ pub record Readings : Type 0 where
   pub e1-none : ask 0x81 (hex "C2 30 0F 00 01 00 01 93 03 E5 00 00 80 00 B0 9C 27 D7") ≡ Asked.Absent
   -- E2: asked of a section that does not read right, the refusal
   pub e2 : ask 0x80 (hex "C2 30 0F") ≡ Asked.Refused 3
+  -- E3: the first of two with the same tag, and its body as a part of the section; and none where the tag stands only in a
+  -- record's list
+  pub e3 : ask 0x80 (hex "C2 30 14 00 01 00 01 80 01 AA 80 02 BB CC 93 03 E5 00 00 72 EA 28 5E") ≡ Asked.There 9 1
+  pub e3-part : partOf (hex "C2 30 14 00 01 00 01 80 01 AA 80 02 BB CC 93 03 E5 00 00 72 EA 28 5E") (Asked.There 9 1) ≡ 0xAA ∷ []
+  pub e3-record : ask 0x81 (hex "C2 30 16 00 01 01 01 02 80 30 81 C8 01 81 01 EE 93 03 E5 00 00 D8 EA 0D 47") ≡ Asked.Absent
 
 pub readings : Readings
 unfolding computed
@@ -237,4 +242,7 @@ readings =
       e1 = refl;
       e1-none = refl;
       e2 = refl;
+      e3 = refl;
+      e3-part = refl;
+      e3-record = refl;
     }

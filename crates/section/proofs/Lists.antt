@@ -1,15 +1,15 @@
 -- Laws of the closing list at a place: one turn of each of the two loops over it.
 use Prim.Native.Nat.{ℕ, _+_, _-_, _≤_, _<_}
 use native.Mathlib.Omega.{arith}
-use native.Mathlib.Nat.{add-zero, add-assoc}
-use mathlib.Core.Path.{_≡_, refl, sym, ap, subst, _∙_}
-use mathlib.Core.Bool.{Bool, true, false, cond}
-use mathlib.Core.List.{List, [], _∷_, _++_, append-nil}
-use lib.ListN.{length, take, length-take, length-drop}
+use native.Mathlib.Nat.{add-zero}
+use mathlib.Core.Path.{_≡_, refl, sym, ap, _∙_}
+use mathlib.Core.Bool.{true, false, cond}
+use mathlib.Core.List.{List, _∷_, _++_, append-nil}
+use lib.ListN.{length, take, length-take}
 use lib.Seq.{getD-drop}
-use lib.Dec.{leb, eqb}
+use lib.Dec.{eqb}
 use borrow.Author.Tests.{leb-true, eq-eqb, ne-eqb}
-use Rattle.rules.specs.Bytes.{Got, refused, got, unless, andThen, giving, byte, from}
+use Rattle.rules.specs.Bytes.{Got, refused, got, andThen, giving, byte, from}
 use Rattle.rules.specs.Descriptors.{Descriptor, descriptor, closing, bodies}
 use Rattle.rules.specs.Section.{revisionTag, revision, firstOf}
 use Rattle.rules.specs.declared.Revision.{Revision}
@@ -19,10 +19,10 @@ use Rattle.rules.proofs.Closing.{closing-end, closing-got, closing-no}
 use Rattle.records.specs.Place.{Stands}
 use Rattle.section.specs.Closes.{closedOf, seenOf, seenWith, listed, firstIn}
 use Rattle.records.specs.declared.descriptors.Skip.{Skip}
-use Rattle.records.specs.declared.descriptors.Skip.the-variants.{At, Refused}
+use Rattle.records.specs.declared.descriptors.Skip.the-variants.{At}
 use Rattle.section.specs.declared.closing.Seen.{Seen}
 use Rattle.section.specs.declared.closing.Seen.the-variants.{Nothing, Once, Again}
-use Rattle.records.proofs.Laws.{from-from, from-length, at-in, at-got, at-no, descAt}
+use Rattle.records.proofs.Laws.{from-from, from-length, at-in, at-got, descAt}
 
 byte-from : (b : List ℕ) (at j : ℕ) → byte j (from b at) ≡ byte (at + j) b
 unfolding byte from

@@ -1,14 +1,14 @@
 -- What the layouts of the tables have in common, and where the records of each structure stand.
 use Prim.Native.Nat.{ℕ, _+_, _-_, _≤_, _<_}
 use native.Mathlib.Omega.{arith}
-use mathlib.Core.Path.{_≡_, refl, sym, ap, subst, _∙_}
+use mathlib.Core.Path.{_≡_, refl, sym, subst, _∙_}
 use mathlib.Core.Bool.{Bool, true, false, _&&_}
 use mathlib.Core.List.{List}
 use lib.ListN.{length, take}
 use lib.Dec.{leb, ltb}
 use borrow.Author.Tests.{leb-true}
 use Rattle.rules.specs.Bytes.{Got, refused, got, andThen, giving, byte, from}
-use Rattle.rules.specs.Layout.{Layout, Numbered, entry, records, head}
+use Rattle.rules.specs.Layout.{Numbered, entry, records, head}
 use Rattle.rules.specs.Tables.{carriersFair, cds, assigned, modeFair, mms, vcmHeadOf, vcmHead, vcm, dcmHeadOf, dcmHead, rangeFair, dcm}
 use Rattle.rules.specs.Section.{Structure, channels, ranges, structure, recordsAt, countOf}
 use Rattle.rules.specs.declared.Table.{Table}

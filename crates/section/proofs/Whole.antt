@@ -1,17 +1,17 @@
 -- From the stages of the reader to the whole section.
-use Prim.Native.Nat.{ℕ, _+_, _-_, _≤_, _<_, _/_, _%_}
+use Prim.Native.Nat.{ℕ, _+_, _-_, _≤_, _<_, _%_}
 use native.Mathlib.Omega.{arith}
 use mathlib.Core.Path.{_≡_, refl, sym, ap, subst, _∙_}
-use mathlib.Core.Bool.{Bool, true, false, cond, _&&_, _||_}
-use mathlib.Core.List.{List, [], _∷_}
+use mathlib.Core.Bool.{Bool, true, false, _&&_, _||_}
+use mathlib.Core.List.{List}
 use mathlib.Core.Option.{Option, none, some}
-use lib.ListN.{length, take}
-use lib.Dec.{leb, ltb, eqb}
-use borrow.Author.Tests.{le-leb, leb-true, eq-eqb, ne-eqb, lt-ltb, le-ltb}
+use lib.ListN.{length}
+use lib.Dec.{leb, eqb}
+use borrow.Author.Tests.{leb-true, eq-eqb, ne-eqb, lt-ltb, le-ltb}
 use Rattle.rules.specs.Bytes.{Got, refused, got, unless, andThen, giving, byte, from}
 use Rattle.rules.specs.Crc.{crcOf}
 use Rattle.rules.specs.Descriptors.{Descriptor, closing, bodies}
-use Rattle.rules.specs.Section.{lengthOf, mediumAt, named, given, headerWhole, header, mapOf, Structure, structure, revisionTag, revision, Content, contentOf, content, fitting, withoutCrc, whole, right, read, readSection, recordsAt, countOf, sizeOf, closingAt, headOf, readAs, firstOf, askedOf, ask}
+use Rattle.rules.specs.Section.{lengthOf, mediumAt, named, given, headerWhole, header, mapOf, Structure, structure, revisionTag, revision, Content, contentOf, content, fitting, withoutCrc, whole, read, readSection, recordsAt, countOf, closingAt, headOf, readAs, firstOf, askedOf, ask}
 use Rattle.rules.specs.declared.Table.{Table}
 use Rattle.rules.specs.declared.Revision.{Revision}
 use Rattle.rules.specs.declared.SectionHead.{SectionHead}

@@ -1,10 +1,9 @@
 // One section: what it reads as, refusals 3 to 11, and the question for a descriptor of its closing list.
 ghost use mathlib.Core.Bool.{_||_};
 ghost use mathlib.Core.Path.{_≡_};
-ghost use Prim.Native.Nat.{ℕ, _≤_};
+ghost use Prim.Native.Nat.{_≤_};
 ghost use lib.Dec.{eqb};
 ghost use lib.ListN.{length};
-ghost use Rattle.rules.specs.Bytes.{from};
 ghost use Rattle.rules.specs.Section.{fitting, lengthOf, mediumAt, named, headerWhole, header, mapOf, contentOf, content, withoutCrc, whole, readSection, readAs, ask, partOf};
 ghost use Rattle.section.specs.Reads.{namedAs, headerAs, Tells};
 use closing::Closed;

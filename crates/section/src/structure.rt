@@ -1,6 +1,6 @@
 // The structure behind the header: where its records stand, and one walk over the records of every table.
 ghost use mathlib.Core.Path.{_≡_};
-ghost use Prim.Native.Nat.{ℕ, _≤_};
+ghost use Prim.Native.Nat.{_≤_};
 ghost use lib.ListN.{length, take};
 ghost use Rattle.rules.specs.Bytes.{from};
 ghost use Rattle.rules.specs.Layout.{entry, records};

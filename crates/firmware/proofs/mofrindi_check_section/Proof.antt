@@ -1,6 +1,6 @@
--- `firmware::mofrindi_check_section` meets its contract: each case of the reader's answer stands for its number.
-use borrow.Author.Needs.{needs}
+-- Each case of the reader's answer stands for its number.
 use mathlib.Core.Path.{sym, _∙_}
+use borrow.Author.Needs.{needs}
 use Rattle.rules.specs.Section.{check}
 use Rattle.firmware.proofs.Laws.{refused-check, right-check}
 use Rattle.firmware.proofs.mofrindi_check_section.Statement.{statement}

@@ -1,31 +1,25 @@
+-- One test for each value of the list.
 use borrow.Author.Tests.{eq-eqb, ne-eqb}
 use Rattle.rules.specs.Tables.{among, systems}
 use Rattle.records.proofs.modes.system_assigned.Statement.{statement}
 use Rattle.records.proofs.modes.system_assigned.Tie as tie
-use Rattle.records.proofs.modes.system_assigned.Reads as reads
-use Rattle.records.proofs.modes.system_assigned.Lts as lts
 
--- src/modes.rt:46:9
 returns : tie.Need-returns
 unfolding among systems
 returns c = simp (eq-eqb _ _ (c .if1 .taken))
 
--- src/modes.rt:49:9
 returns-2 : tie.Need-returns-2
 unfolding among systems
 returns-2 c = simp (eq-eqb _ _ (c .if2 .taken), ne-eqb _ _ (c .before .if1 .left))
 
--- src/modes.rt:52:9
 returns-3 : tie.Need-returns-3
 unfolding among systems
 returns-3 c = simp (eq-eqb _ _ (c .if3 .taken), ne-eqb _ _ (c .before .if2 .left), ne-eqb _ _ (c .before .before .if1 .left))
 
--- src/modes.rt:55:9
 returns-4 : tie.Need-returns-4
 unfolding among systems
 returns-4 c = simp (eq-eqb _ _ (c .if4 .taken), ne-eqb _ _ (c .before .if3 .left), ne-eqb _ _ (c .before .before .if2 .left), ne-eqb _ _ (c .before .before .before .if1 .left))
 
--- src/modes.rt:42:1
 returns-5 : tie.Need-returns-5
 unfolding among systems
 returns-5 c = simp (ne-eqb _ _ (c .if4 .left), ne-eqb _ _ (c .before .if3 .left), ne-eqb _ _ (c .before .before .if2 .left), ne-eqb _ _ (c .before .before .before .if1 .left))

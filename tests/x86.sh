@@ -1,0 +1,30 @@
+# Source this: compiling and running C for x86-64 with the Rattle toolchain's own clang, linker and C library, the same on
+# x86-64 and on aarch64 (there under the toolchain's emulator). It needs nothing but the toolchain.
+kit=${RATTLE_HOME:-$(cd "$(dirname "$(readlink -f "$(command -v rt)")")/.." && pwd -P)}
+toolchain=$kit/on/$(uname -m)/toolchain
+emulator=
+[ -x "$toolchain/bin/qemu-x86_64" ] && emulator=$toolchain/bin/qemu-x86_64
+
+# run_x86 PROGRAM [ARGUMENT..]
+run_x86() {
+    ${emulator:+"$emulator"} "$toolchain/lib/ld-linux-x86-64.so.2" --library-path "$toolchain/lib" "$@"
+}
+
+# link_x86 OUT FILE.c ARCHIVE: one C file, with include/ and the stand-in headers of tests/c/kit, and an archive
+link_x86() {
+    local object=$1.o lib=$toolchain/lib
+    "$toolchain/bin/clang" --target=x86_64-unknown-linux-gnu -std=c11 -Wall -Wextra -Werror -O2 -fPIE -nostdinc \
+        -isystem tests/c/kit -Iinclude -c "$2" -o "$object" || return 1
+    "$toolchain/bin/ld.lld" -pie -m elf_x86_64 --dynamic-linker /lib64/ld-linux-x86-64.so.2 -o "$1" \
+        "$lib/Scrt1.o" "$lib/crti.o" "$lib/crtbeginS.o" "$object" "$3" "$lib/libc.so.6" "$lib/libc_nonshared.a" \
+        "$lib/libgcc.a" "$lib/crtendS.o" "$lib/crtn.o"
+}
+
+# firmware_archive: builds target/staticlib/libfirmware.a, unless the gate's run has proved and built it already
+firmware_archive() {
+    local log
+    log=$(rt staticlib firmware 2>&1) || {
+        printf '%s\n' "$log" | tail -n 5 >&2
+        return 1
+    }
+}
