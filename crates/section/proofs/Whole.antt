@@ -22,8 +22,8 @@ use Rattle.rules.proofs.Taken.{unless-got, then-got, given-got}
 use Rattle.rules.proofs.Closing.{closing-size}
 use Rattle.section.specs.Closes.{closedAs, closedOf, listed, firstIn}
 use Rattle.section.specs.Reads.{namedAs, headerAs, Listed, shown, Tells}
-use Rattle.section.specs.declared.Named.the-variants as named
-use Rattle.section.specs.declared.Header.the-variants as header
+use Rattle.section.specs.declared.header.Named.the-variants as named
+use Rattle.section.specs.declared.header.Header.the-variants as header
 use Rattle.section.specs.declared.closing.Closed.the-variants as closed
 use Rattle.records.proofs.Laws.{from-length}
 

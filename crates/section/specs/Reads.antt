@@ -9,10 +9,10 @@ use Rattle.rules.specs.Section.{Content, closingAt, headOf}
 use Rattle.rules.specs.declared.Table.{Table}
 use Rattle.rules.specs.declared.Read.{Read}
 use Rattle.rules.specs.declared.Read.the-variants as read
-use Rattle.section.specs.declared.Named.{Named}
-use Rattle.section.specs.declared.Named.the-variants as named
-use Rattle.section.specs.declared.Header.{Header}
-use Rattle.section.specs.declared.Header.the-variants as header
+use Rattle.section.specs.declared.header.Named.{Named}
+use Rattle.section.specs.declared.header.Named.the-variants as named
+use Rattle.section.specs.declared.header.Header.{Header}
+use Rattle.section.specs.declared.header.Header.the-variants as header
 
 unfoldable pub namedAs : Option Table → Named
 namedAs none = named.Nothing

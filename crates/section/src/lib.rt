@@ -4,9 +4,10 @@ ghost use mathlib.Core.Path.{_≡_};
 ghost use Prim.Native.Nat.{_≤_};
 ghost use lib.Dec.{eqb};
 ghost use lib.ListN.{length};
-ghost use Rattle.rules.specs.Section.{fitting, lengthOf, mediumAt, named, headerWhole, header, mapOf, contentOf, content, withoutCrc, whole, readSection, readAs, ask, partOf};
-ghost use Rattle.section.specs.Reads.{namedAs, headerAs, Tells};
+ghost use Rattle.rules.specs.Section.{fitting, lengthOf, contentOf, content, withoutCrc, whole, readSection, readAs, ask, partOf};
+ghost use Rattle.section.specs.Reads.{Tells};
 use closing::Closed;
+use header::Header;
 use records::bytes;
 use records::descriptors::Skip;
 use rules::Asked;
@@ -15,19 +16,9 @@ use rules::SectionHead;
 use rules::Table;
 use structure::Outline;
 
+mod header; // the table that a section is of
 mod structure; // the records of every table
 mod closing; // the closing list
-
-// The table that a header names, or its refusal.
-pub enum Header {
-    Refused(u8),
-    Names(Table),
-}
-
-enum Named {
-    Nothing,
-    Table(Table),
-}
 
 // L, which counts all that follows the first three bytes.
 fn length_of(s: &[u8]) -> u16
@@ -60,90 +51,6 @@ fn is_table_number(number: u8) -> bool
     number == 0xC4
 }
 
-// The table that a table number and the byte of medium and subtype name.
-fn table_named(number: u8, medium: u8) -> Named
-    ensures { λ r. ⌜ r ≡ namedAs (named number medium) ⌝ }
-{
-    if number == 0xC2 {
-        if medium == 1 {
-            return Named::Table(Table::Cds);
-        }
-        if medium == 2 {
-            return Named::Table(Table::Mms);
-        }
-        return Named::Nothing;
-    }
-    if medium == 0 {
-        return Named::Table(Table::Vcm);
-    }
-    if medium == 1 {
-        return Named::Table(Table::Dcm);
-    }
-    Named::Nothing
-}
-
-// The header whole, once its table is known: 8 before 9 before 10.
-fn header_whole(t: Table, b: &[u8]) -> Header
-    ensures { λ r. ⌜ r ≡ headerAs (headerWhole t (now (b .entry))) ⌝ }
-{
-    let number = bytes::byte(b, 0);
-    let high = bytes::byte(b, 1);
-    let protocol = bytes::byte(b, 3);
-    if b.len() < 7 {
-        return Header::Refused(8);
-    }
-    if high / 64 != 0 {
-        return Header::Refused(9);
-    }
-    if protocol / 32 != 0 {
-        return Header::Refused(9);
-    }
-    if number == 0xC4 {
-        return Header::Names(t);
-    }
-    if bytes::byte(b, 4) < 1 {
-        return Header::Refused(10);
-    }
-    Header::Names(t)
-}
-
-fn medium_at(b: &[u8]) -> usize
-    ensures { λ r. ⌜ r ≡ mediumAt (now (b .entry)) ⌝ }
-{
-    if bytes::byte(b, 0) == 0xC2 {
-        return 6;
-    }
-    4
-}
-
-// The header of a section without its CRC.
-fn header_of(b: &[u8]) -> Header
-    ensures { λ r. ⌜ r ≡ headerAs (header (now (b .entry))) ⌝ }
-{
-    let at = medium_at(b);
-    if b.len() <= at {
-        return Header::Refused(8);
-    }
-    let name = table_named(bytes::byte(b, 0), bytes::byte(b, at));
-    match name {
-        Named::Nothing => Header::Refused(7),
-        Named::Table(t) => header_whole(t, b),
-    }
-}
-
-// The map number of 0xC4, or 0.
-fn map_of(b: &[u8]) -> u16
-    ensures { λ r. ⌜ r ≡ mapOf (now (b .entry)) ⌝ }
-{
-    let number = bytes::byte(b, 0);
-    let high = bytes::byte(b, 5);
-    let low = bytes::byte(b, 6);
-    if number == 0xC4 {
-        return high as u16 * 256 + low as u16;
-    }
-    0
-}
-
 // Behind the header: the structure, then the closing list.
 fn structured(t: Table, b: &[u8]) -> Read
     requires { ⌜ 7 ≤ length (now b) ⌝ }
@@ -167,7 +74,7 @@ fn structured(t: Table, b: &[u8]) -> Read
                         Closed::Refused(n) => Read::Refused(n),
                         Closed::Revised(revision) => Read::Right(SectionHead {
                             table: t,
-                            map: map_of(b),
+                            map: header::map_of(b),
                             revision,
                             records: start,
                             count,
@@ -184,7 +91,7 @@ fn structured(t: Table, b: &[u8]) -> Read
 fn content_of(b: &[u8]) -> Read
     ensures { λ r. ⌜ Tells (now (b .entry)) r (content (now (b .entry))) ⌝ }
 {
-    let header = header_of(b);
+    let header = header::header_of(b);
     match header {
         Header::Refused(n) => Read::Refused(n),
         Header::Names(t) => structured(t, b),

@@ -2,8 +2,8 @@
 use borrow.Author.Tests.{eq-eqb, ne-eqb}
 use Rattle.rules.specs.Section.{named}
 use Rattle.section.specs.Reads.{namedAs}
-use Rattle.section.proofs.table_named.Statement.{statement}
-use Rattle.section.proofs.table_named.Tie as tie
+use Rattle.section.proofs.header.table_named.Statement.{statement}
+use Rattle.section.proofs.header.table_named.Tie as tie
 
 returns : tie.Need-returns
 unfolding named namedAs

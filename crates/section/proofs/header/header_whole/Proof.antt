@@ -4,8 +4,8 @@ use borrow.Author.Needs.{needs}
 use Rattle.rules.specs.Section.{headerWhole}
 use Rattle.rules.specs.Bytes.{unless}
 use Rattle.section.specs.Reads.{headerAs}
-use Rattle.section.proofs.header_whole.Statement.{statement}
-use Rattle.section.proofs.header_whole.Tie as tie
+use Rattle.section.proofs.header.header_whole.Statement.{statement}
+use Rattle.section.proofs.header.header_whole.Tie as tie
 
 returns : tie.Need-returns
 unfolding headerAs headerWhole unless

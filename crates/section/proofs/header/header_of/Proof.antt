@@ -4,8 +4,8 @@ use mathlib.Core.Path.{sym, ap, _∙_}
 use borrow.Author.Needs.{needs}
 use Rattle.section.specs.Reads.{headerAs}
 use Rattle.section.proofs.Whole.{header-cut, header-unnamed, header-named}
-use Rattle.section.proofs.header_of.Statement.{statement}
-use Rattle.section.proofs.header_of.Tie as tie
+use Rattle.section.proofs.header.header_of.Statement.{statement}
+use Rattle.section.proofs.header.header_of.Tie as tie
 
 returns : tie.Need-returns
 unfolding headerAs

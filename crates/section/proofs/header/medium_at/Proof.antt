@@ -2,8 +2,8 @@
 use borrow.Author.Tests.{eq-eqb, ne-eqb}
 use borrow.Author.Needs.{needs}
 use Rattle.rules.specs.Section.{mediumAt}
-use Rattle.section.proofs.medium_at.Statement.{statement}
-use Rattle.section.proofs.medium_at.Tie as tie
+use Rattle.section.proofs.header.medium_at.Statement.{statement}
+use Rattle.section.proofs.header.medium_at.Tie as tie
 
 returns : tie.Need-returns
 unfolding mediumAt

@@ -2,8 +2,8 @@
 use borrow.Author.Tests.{eq-eqb, ne-eqb}
 use borrow.Author.Needs.{needs}
 use Rattle.rules.specs.Section.{mapOf}
-use Rattle.section.proofs.map_of.Statement.{statement}
-use Rattle.section.proofs.map_of.Tie as tie
+use Rattle.section.proofs.header.map_of.Statement.{statement}
+use Rattle.section.proofs.header.map_of.Tie as tie
 
 returns : tie.Need-returns
 unfolding mapOf

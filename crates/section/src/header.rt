@@ -1,0 +1,102 @@
+// The header: the table that a section is of, refusal 7, and the header's own 8, 9 and 10. b is a section without its CRC.
+ghost use mathlib.Core.Path.{_≡_};
+ghost use Rattle.rules.specs.Section.{mediumAt, named, headerWhole, mapOf};
+ghost use Rattle.rules.specs.Section as rule;
+ghost use Rattle.section.specs.Reads.{namedAs, headerAs};
+use records::bytes;
+use rules::Table;
+
+// The table that a header names, or its refusal.
+pub enum Header {
+    Refused(u8),
+    Names(Table),
+}
+
+pub enum Named {
+    Nothing,
+    Table(Table),
+}
+
+// The table that a table number and the byte of medium and subtype name.
+fn table_named(number: u8, medium: u8) -> Named
+    ensures { λ r. ⌜ r ≡ namedAs (named number medium) ⌝ }
+{
+    if number == 0xC2 {
+        if medium == 1 {
+            return Named::Table(Table::Cds);
+        }
+        if medium == 2 {
+            return Named::Table(Table::Mms);
+        }
+        return Named::Nothing;
+    }
+    if medium == 0 {
+        return Named::Table(Table::Vcm);
+    }
+    if medium == 1 {
+        return Named::Table(Table::Dcm);
+    }
+    Named::Nothing
+}
+
+// The header whole, once its table is known: 8 before 9 before 10.
+fn header_whole(t: Table, b: &[u8]) -> Header
+    ensures { λ r. ⌜ r ≡ headerAs (headerWhole t (now (b .entry))) ⌝ }
+{
+    let number = bytes::byte(b, 0);
+    let high = bytes::byte(b, 1);
+    let protocol = bytes::byte(b, 3);
+    if b.len() < 7 {
+        return Header::Refused(8);
+    }
+    if high / 64 != 0 {
+        return Header::Refused(9);
+    }
+    if protocol / 32 != 0 {
+        return Header::Refused(9);
+    }
+    if number == 0xC4 {
+        return Header::Names(t);
+    }
+    if bytes::byte(b, 4) < 1 {
+        return Header::Refused(10);
+    }
+    Header::Names(t)
+}
+
+fn medium_at(b: &[u8]) -> usize
+    ensures { λ r. ⌜ r ≡ mediumAt (now (b .entry)) ⌝ }
+{
+    if bytes::byte(b, 0) == 0xC2 {
+        return 6;
+    }
+    4
+}
+
+// The header of a section without its CRC.
+pub fn header_of(b: &[u8]) -> Header
+    ensures { λ r. ⌜ r ≡ headerAs (rule.header (now (b .entry))) ⌝ }
+{
+    let at = medium_at(b);
+    if b.len() <= at {
+        return Header::Refused(8);
+    }
+    let name = table_named(bytes::byte(b, 0), bytes::byte(b, at));
+    match name {
+        Named::Nothing => Header::Refused(7),
+        Named::Table(t) => header_whole(t, b),
+    }
+}
+
+// The map number of 0xC4, or 0.
+pub fn map_of(b: &[u8]) -> u16
+    ensures { λ r. ⌜ r ≡ mapOf (now (b .entry)) ⌝ }
+{
+    let number = bytes::byte(b, 0);
+    let high = bytes::byte(b, 5);
+    let low = bytes::byte(b, 6);
+    if number == 0xC4 {
+        return high as u16 * 256 + low as u16;
+    }
+    0
+}
