@@ -1,5 +1,14 @@
 # Source this: compiling and running C for x86-64 with the Rattle toolchain's own clang, linker and C library, the same on
-# x86-64 and on aarch64 (there under the toolchain's emulator). It needs nothing but the toolchain.
+# x86-64 and on aarch64 (there under the toolchain's emulator). It needs the toolchain, and Python 3 for the tests around it.
+need() {
+    command -v "$1" >/dev/null || {
+        printf '%s: %s\n' "$0" "$2" >&2
+        exit 1
+    }
+}
+need rt "the Rattle toolchain's command rt is not on the PATH"
+need python3 "python3 is not on the PATH"
+
 kit=${RATTLE_HOME:-$(cd "$(dirname "$(readlink -f "$(command -v rt)")")/.." && pwd -P)}
 toolchain=$kit/on/$(uname -m)/toolchain
 emulator=
@@ -20,11 +29,12 @@ link_x86() {
         "$lib/libgcc.a" "$lib/crtendS.o" "$lib/crtn.o"
 }
 
-# firmware_archive: builds target/staticlib/libfirmware.a, unless the gate's run has proved and built it already
+# firmware_archive: proves what is not proved yet and writes target/staticlib/libfirmware.a
 firmware_archive() {
     local log
     log=$(rt staticlib firmware 2>&1) || {
         printf '%s\n' "$log" | tail -n 5 >&2
-        return 1
+        printf '%s: rt staticlib firmware failed\n' "$0" >&2
+        exit 1
     }
 }

@@ -9,26 +9,19 @@ use lib.ListN.{length, getD, take, drop, length-drop, drop-of-length-le, List·g
 use lib.Seq.{getD-drop, drop-drop, take-all, take-nil}
 use borrow.Author.Tests.{le-leb, lt-leb}
 use Rattle.rules.specs.Bytes.{Got, refused, got, unless, andThen, giving, byte, from}
-use Rattle.rules.specs.Descriptors.{Descriptor, descriptor, passed, counted}
+use Rattle.rules.specs.Descriptors.{descriptor, passed, counted}
 use Rattle.rules.specs.Layout.{Layout, Numbered, numbered, bare, entry, after, records, head}
 use Rattle.rules.proofs.Taken.{taken, bare-so}
+use Rattle.rules.proofs.Places.{from-from, from-length, same-place, descAt, behind}
 use Rattle.records.specs.Place.{Left, left, no, leftOf, leftAt, inside, Stands}
-use Rattle.records.specs.declared.descriptors.Skip.{Skip}
-use Rattle.records.specs.declared.descriptors.Skip.the-variants.{At, Refused}
+use Rattle.records.specs.declared.Skip.{Skip}
+use Rattle.records.specs.declared.Skip.the-variants.{At, Refused}
 
 -- ---- bytes and parts
 
 pub byte-past : (r : List ℕ) (j : ℕ) → length r ≤ j → 0 ≡ byte j r
 unfolding byte
 byte-past r j h = sym (List·getD-eq-default r 0 h)
-
-pub from-from : (b : List ℕ) (n m : ℕ) → from (from b n) m ≡ from b (n + m)
-unfolding from
-from-from b n m = drop-drop m n b
-
-pub from-length : (b : List ℕ) (at : ℕ) → length (from b at) ≡ length b - at
-unfolding from
-from-length b at = length-drop at b
 
 module _ (b : List ℕ) (at n : ℕ) where
   pub part-whole : take (at + n - at) (drop at b) ≡ take n (from b at)
@@ -79,10 +72,6 @@ module _ {A : Type 0} (b : List ℕ) (r : Skip) (g : Got A) (s : Stands b r g) w
 
 -- ---- descriptors
 
--- the descriptor that stands at a place
-abbrev pub descAt : List ℕ → ℕ → Descriptor
-descAt b at = record { tag = byte at b; body = take (byte (at + 1) b) (from b (at + 2)) }
-
 module _ (b : List ℕ) (at : ℕ) where
   pub desc-short : length b - at < 2 → descriptor (from b at) ≡ refused 8
   unfolding descriptor unless from
@@ -92,7 +81,7 @@ module _ (b : List ℕ) (at : ℕ) where
   unfolding descriptor unless from byte
   desc-cut h k = simp (length-drop, getD-drop, le-leb _ _ h, lt-leb _ _ k)
 
-  pub desc-whole : 2 ≤ length b - at → byte (at + 1) b ≤ length b - at - 2 → descriptor (from b at) ≡ got (descAt b at) (from b (at + 2 + byte (at + 1) b))
+  pub desc-whole : 2 ≤ length b - at → byte (at + 1) b ≤ length b - at - 2 → descriptor (from b at) ≡ got (descAt b at) (from b (behind b at))
   unfolding descriptor unless from byte
   desc-whole h k = simp (length-drop, getD-drop, drop-drop, add-zero, add-assoc, le-leb _ _ h, le-leb _ _ k)
 
@@ -165,9 +154,9 @@ module _ {R : Type 0} (l : Layout R) (b : List ℕ) (at : ℕ) where
   unfolding head giving
   head-no n e = rw e
 
-  pub head-so : bare l 0 (from b at) ≡ got (numbered l 0 (from b at)) (from b (at + l .size)) → head l (from b at) ≡ got (l .look (take (l .size) (from b at))) (from b (at + l .size))
+  pub head-so : (h : R) → h ≡ l .look (take (l .size) (from b at)) → bare l 0 (from b at) ≡ got (numbered l 0 (from b at)) (from b (at + l .size)) → head l (from b at) ≡ got h (from b (at + l .size))
   unfolding head giving numbered
-  head-so e = rw e
+  head-so h q e = rw (e, q)
 
 -- one turn of the loop over so many records
 module _ {R : Type 0} (l : Layout R) (b : List ℕ) (at index : ℕ) (r : Skip) (s : Stands b r (entry l index (from b at))) where
@@ -193,9 +182,6 @@ module _ {R : Type 0} (l : Layout R) (b : List ℕ) (at index : ℕ) (r : Skip) 
   stop n (suc m) w h e q = sym (q ∙ rw (at-no b r _ s n e))
 
 -- ---- a promise by places leaves one answer
-
-same-place : (b : List ℕ) (i j : ℕ) → i ≤ length b → j ≤ length b → from b i ≡ from b j → i ≡ j
-same-place b i j h k e = omega (arith, from-length b i, from-length b j, ap length e)
 
 pub stands-once : {A : Type 0} (b : List ℕ) (r q : Skip) (g : Got A) → Stands b r g → Stands b q g → r ≡ q
 stands-once b (At i) (At j) g s t = let e : from b i ≡ from b j = cc in ap At (same-place b i j (s .within) (t .within) e)

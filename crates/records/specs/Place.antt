@@ -4,8 +4,8 @@ use mathlib.Core.Path.{_≡_}
 use mathlib.Core.List.{List}
 use lib.ListN.{length}
 use Rattle.rules.specs.Bytes.{Got, refused, got, from}
-use Rattle.records.specs.declared.descriptors.Skip.{Skip}
-use Rattle.records.specs.declared.descriptors.Skip.the-variants.{At, Refused}
+use Rattle.records.specs.declared.Skip.{Skip}
+use Rattle.records.specs.declared.Skip.the-variants.{At, Refused}
 
 -- the bytes that are left, or the refusal
 pub data Left : Type 0 where

@@ -1,4 +1,4 @@
-// Bytes of a slice and parts of it, for every place there is: nothing here can be asked too far.
+// Bytes of a slice and parts of it: every place and every length has an answer.
 ghost use mathlib.Core.Path.{_≡_};
 ghost use Prim.Native.Nat.{_-_};
 ghost use lib.ListN.{length, take};

@@ -4,11 +4,14 @@ ghost use Rattle.rules.specs.Bytes.{from};
 ghost use Rattle.rules.specs.Layout.{entry};
 ghost use Rattle.rules.specs.Tables.{carriersZeros, carriersOf, carriersFair, cds};
 ghost use Rattle.records.specs.Place.{Stands};
+use crate::Skip;
 use crate::bytes;
 use crate::counted;
-use crate::descriptors::Skip;
 use rules::Carriers;
 use rules::Measure;
+
+// Bytes of a record.
+pub const SIZE: usize = 5;
 
 fn carriers_zeros(r: &[u8]) -> bool
     ensures { λ x. ⌜ x ≡ carriersZeros (now (r .entry)) ⌝ }
@@ -21,19 +24,19 @@ pub fn carriers_of(r: &[u8]) -> Carriers
     ensures { λ x. ⌜ x ≡ carriersOf (now (r .entry)) ⌝ }
 {
     let count = bytes::byte(r, 0);
-    let s = bytes::byte(r, 1);
-    let t = bytes::byte(r, 2);
-    let f = bytes::byte(r, 3);
-    let g = bytes::byte(r, 4);
+    let spacing = bytes::byte(r, 1);
+    let spacing_low = bytes::byte(r, 2);
+    let first = bytes::byte(r, 3);
+    let first_low = bytes::byte(r, 4);
     Carriers {
         count,
         spacing: Measure {
-            unit: s / 128,
-            number: (s % 64) as u16 * 256 + t as u16,
+            unit: spacing / 128,
+            number: (spacing % 64) as u16 * 256 + spacing_low as u16,
         },
         first: Measure {
-            unit: f / 128,
-            number: (f % 128) as u16 * 256 + g as u16,
+            unit: first / 128,
+            number: (first % 128) as u16 * 256 + first_low as u16,
         },
     }
 }
@@ -47,17 +50,17 @@ fn carriers_fair(index: u16, c: Carriers) -> bool
     index as u32 + c.count as u32 <= 256
 }
 
-// Behind the record at a place, at an index, and its descriptors.
+// The place behind the record at a place, which takes indices from the given one on, and behind its descriptors; or 8, 9, 10.
 pub fn carriers_step(b: &[u8], at: usize, index: u16) -> Skip
     ensures { λ r. ⌜ Stands (now (b .entry)) r (entry cds index (from (now (b .entry)) at)) ⌝ }
 {
-    if bytes::room(b, at) < 5 {
+    if bytes::room(b, at) < SIZE {
         return Skip::Refused(8);
     }
-    let r = bytes::part(b, at, 5);
+    let r = bytes::part(b, at, SIZE);
     if carriers_zeros(r) {
         if carriers_fair(index, carriers_of(r)) {
-            return counted::past_counted(b, at + 5, true);
+            return counted::past_counted(b, at + SIZE, true);
         }
         return Skip::Refused(10);
     }

@@ -4,25 +4,30 @@ ghost use Rattle.rules.specs.Bytes.{from};
 ghost use Rattle.rules.specs.Layout.{entry};
 ghost use Rattle.rules.specs.Tables.{vcmHeadZeros, vcmHeadOf, channelZeros, signalOf, channelOf, channelFair, vcm};
 ghost use Rattle.records.specs.Place.{Stands};
+use crate::Skip;
 use crate::bytes;
 use crate::counted;
-use crate::descriptors::Skip;
 use rules::Channel;
 use rules::Signal;
 use rules::VcmHead;
 
+// Bytes of the head, and of a record.
+pub const HEAD: usize = 7;
+
+pub const SIZE: usize = 9;
+
 pub fn vcm_head_zeros(r: &[u8]) -> bool
     ensures { λ x. ⌜ x ≡ vcmHeadZeros (now (r .entry)) ⌝ }
 {
-    let a = bytes::byte(r, 0);
-    let s = bytes::byte(r, 1);
-    if a / 64 != 0 {
+    let included = bytes::byte(r, 0);
+    let splice = bytes::byte(r, 1);
+    if included / 64 != 0 {
         return false;
     }
-    if a % 32 != 0 {
+    if included % 32 != 0 {
         return false;
     }
-    if s % 128 != 0 {
+    if splice % 128 != 0 {
         return false;
     }
     true
@@ -32,17 +37,17 @@ pub fn vcm_head_zeros(r: &[u8]) -> bool
 pub fn vcm_head_of(r: &[u8]) -> VcmHead
     ensures { λ x. ⌜ x ≡ vcmHeadOf (now (r .entry)) ⌝ }
 {
-    let a = bytes::byte(r, 0);
-    let s = bytes::byte(r, 1);
-    let t = bytes::byte(r, 2);
-    let u = bytes::byte(r, 3);
-    let v = bytes::byte(r, 4);
-    let w = bytes::byte(r, 5);
+    let included = bytes::byte(r, 0);
+    let splice = bytes::byte(r, 1);
+    let t3 = bytes::byte(r, 2);
+    let t2 = bytes::byte(r, 3);
+    let t1 = bytes::byte(r, 4);
+    let t0 = bytes::byte(r, 5);
     let count = bytes::byte(r, 6);
     VcmHead {
-        included: a / 32 % 2,
-        splice: s / 128,
-        time: t as u32 * 16777216 + u as u32 * 65536 + v as u32 * 256 + w as u32,
+        included: included / 32 % 2,
+        splice: splice / 128,
+        time: t3 as u32 * 16777216 + t2 as u32 * 65536 + t1 as u32 * 256 + t0 as u32,
         count,
     }
 }
@@ -50,45 +55,45 @@ pub fn vcm_head_of(r: &[u8]) -> VcmHead
 fn channel_zeros(r: &[u8]) -> bool
     ensures { λ x. ⌜ x ≡ channelZeros (now (r .entry)) ⌝ }
 {
-    let a = bytes::byte(r, 0);
-    let k = bytes::byte(r, 2);
-    if a / 16 != 0 {
+    let number = bytes::byte(r, 0);
+    let flags = bytes::byte(r, 2);
+    if number / 16 != 0 {
         return false;
     }
-    if k / 64 % 2 != 0 {
+    if flags / 64 % 2 != 0 {
         return false;
     }
-    if k / 16 % 2 == 0 {
+    if flags / 16 % 2 == 0 {
         return true;
     }
-    let s = bytes::byte(r, 6);
-    let t = bytes::byte(r, 7);
-    let u = bytes::byte(r, 8);
-    if s / 16 % 8 != 0 {
+    let analogue = bytes::byte(r, 6);
+    let zero_high = bytes::byte(r, 7);
+    let zero_low = bytes::byte(r, 8);
+    if analogue / 16 % 8 != 0 {
         return false;
     }
-    if t != 0 {
+    if zero_high != 0 {
         return false;
     }
-    u == 0
+    zero_low == 0
 }
 
 fn signal_of(r: &[u8]) -> Signal
     ensures { λ x. ⌜ x ≡ signalOf (now (r .entry)) ⌝ }
 {
-    let k = bytes::byte(r, 2);
-    let s = bytes::byte(r, 6);
-    if k / 16 % 2 == 0 {
-        let t = bytes::byte(r, 7);
-        let u = bytes::byte(r, 8);
+    let flags = bytes::byte(r, 2);
+    let high = bytes::byte(r, 6);
+    if flags / 16 % 2 == 0 {
+        let low = bytes::byte(r, 7);
+        let mode = bytes::byte(r, 8);
         return Signal::Digital {
-            program: s as u16 * 256 + t as u16,
-            mode: u,
+            program: high as u16 * 256 + low as u16,
+            mode,
         };
     }
     Signal::Analogue {
-        scrambled: s / 128,
-        standard: s % 16,
+        scrambled: high / 128,
+        standard: high % 16,
     }
 }
 
@@ -96,19 +101,19 @@ fn signal_of(r: &[u8]) -> Signal
 pub fn channel_of(r: &[u8]) -> Channel
     ensures { λ x. ⌜ x ≡ channelOf (now (r .entry)) ⌝ }
 {
-    let a = bytes::byte(r, 0);
-    let b = bytes::byte(r, 1);
-    let k = bytes::byte(r, 2);
-    let c = bytes::byte(r, 3);
-    let d = bytes::byte(r, 4);
+    let number = bytes::byte(r, 0);
+    let number_low = bytes::byte(r, 1);
+    let flags = bytes::byte(r, 2);
+    let source = bytes::byte(r, 3);
+    let source_low = bytes::byte(r, 4);
     let carrier = bytes::byte(r, 5);
     let signal = signal_of(r);
     Channel {
-        number: (a % 16) as u16 * 256 + b as u16,
-        application: k / 128,
-        path: k / 32 % 2,
-        kind: k % 16,
-        source: c as u16 * 256 + d as u16,
+        number: (number % 16) as u16 * 256 + number_low as u16,
+        application: flags / 128,
+        path: flags / 32 % 2,
+        kind: flags % 16,
+        source: source as u16 * 256 + source_low as u16,
         carrier,
         signal,
     }
@@ -133,17 +138,18 @@ fn channel_fair(c: Channel) -> bool
     }
 }
 
-// Behind the record at a place and, where the head says that they are included, its descriptors.
-pub fn channel_step(b: &[u8], at: usize, index: u16, included: u8) -> Skip
-    ensures { λ r. ⌜ Stands (now (b .entry)) r (entry (vcm included) index (from (now (b .entry)) at)) ⌝ }
+// The place behind the record at a place and, where the head says that they are included, behind its descriptors; or 8, 9, 10.
+// A channel record carries its number itself: it takes no index, and 0 stands for one.
+pub fn channel_step(b: &[u8], at: usize, included: u8) -> Skip
+    ensures { λ r. ⌜ Stands (now (b .entry)) r (entry (vcm included) 0 (from (now (b .entry)) at)) ⌝ }
 {
-    if bytes::room(b, at) < 9 {
+    if bytes::room(b, at) < SIZE {
         return Skip::Refused(8);
     }
-    let r = bytes::part(b, at, 9);
+    let r = bytes::part(b, at, SIZE);
     if channel_zeros(r) {
         if channel_fair(channel_of(r)) {
-            return counted::past_counted(b, at + 9, included == 1);
+            return counted::past_counted(b, at + SIZE, included == 1);
         }
         return Skip::Refused(10);
     }

@@ -4,10 +4,10 @@ ghost use lib.ListN.{length};
 ghost use Rattle.rules.specs.Bytes.{from};
 ghost use Rattle.rules.specs.Descriptors.{passed, counted};
 ghost use Rattle.records.specs.Place.{Stands};
+use crate::Skip;
 use crate::descriptors;
-use crate::descriptors::Skip;
 
-// Behind so many descriptors.
+// The place behind so many descriptors, or 8.
 fn past_some(b: &[u8], start: usize, count: u8) -> Skip
     requires { ⌜ start ≤ length (now b) ⌝ }
     ensures { λ r. ⌜ Stands (now (b .entry)) r (passed count (from (now (b .entry)) start)) ⌝ }
@@ -29,7 +29,7 @@ fn past_some(b: &[u8], start: usize, count: u8) -> Skip
     Skip::At(at)
 }
 
-// Behind a record's descriptor count and descriptors, where it has them.
+// The place behind a record's descriptor count and descriptors, where it has them, or 8.
 pub fn past_counted(b: &[u8], at: usize, described: bool) -> Skip
     requires { ⌜ at ≤ length (now b) ⌝ }
     ensures { λ r. ⌜ Stands (now (b .entry)) r (counted described (from (now (b .entry)) at)) ⌝ }

@@ -1,16 +1,11 @@
-// Passing over one descriptor. b is a section without its CRC, so what runs past b runs into the CRC: refusal 8.
+// Passing over one descriptor.
 ghost use Rattle.rules.specs.Bytes.{from};
 ghost use Rattle.rules.specs.Descriptors.{descriptor};
 ghost use Rattle.records.specs.Place.{Stands};
+use crate::Skip;
 use crate::bytes;
 
-// A place in the bytes, or the number of a refusal.
-pub enum Skip {
-    At(usize),
-    Refused(u8),
-}
-
-// Behind the descriptor at a place.
+// The place behind the descriptor at a place, or 8.
 pub fn past_one(b: &[u8], at: usize) -> Skip
     ensures { λ r. ⌜ Stands (now (b .entry)) r (descriptor (from (now (b .entry)) at)) ⌝ }
 {

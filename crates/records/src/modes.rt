@@ -4,38 +4,41 @@ ghost use Rattle.rules.specs.Bytes.{from};
 ghost use Rattle.rules.specs.Layout.{entry};
 ghost use Rattle.rules.specs.Tables.{modeZeros, modeOf, among, systems, innerCodings, modeFair, mms};
 ghost use Rattle.records.specs.Place.{Stands};
+use crate::Skip;
 use crate::bytes;
 use crate::counted;
-use crate::descriptors::Skip;
 use rules::Mode;
+
+// Bytes of a record.
+pub const SIZE: usize = 6;
 
 fn mode_zeros(r: &[u8]) -> bool
     ensures { λ x. ⌜ x ≡ modeZeros (now (r .entry)) ⌝ }
 {
-    let f = bytes::byte(r, 1);
-    let s = bytes::byte(r, 2);
-    if f / 32 % 4 != 0 {
+    let format = bytes::byte(r, 1);
+    let symbols = bytes::byte(r, 2);
+    if format / 32 % 4 != 0 {
         return false;
     }
-    s / 16 == 0
+    symbols / 16 == 0
 }
 
 // What the record with these bytes says.
 pub fn mode_of(r: &[u8]) -> Mode
     ensures { λ x. ⌜ x ≡ modeOf (now (r .entry)) ⌝ }
 {
-    let a = bytes::byte(r, 0);
-    let f = bytes::byte(r, 1);
-    let s = bytes::byte(r, 2);
-    let t = bytes::byte(r, 3);
-    let u = bytes::byte(r, 4);
-    let v = bytes::byte(r, 5);
+    let codings = bytes::byte(r, 0);
+    let format = bytes::byte(r, 1);
+    let s3 = bytes::byte(r, 2);
+    let s2 = bytes::byte(r, 3);
+    let s1 = bytes::byte(r, 4);
+    let s0 = bytes::byte(r, 5);
     Mode {
-        system: a / 16,
-        inner: a % 16,
-        split: f / 128,
-        format: f % 32,
-        symbols: (s % 16) as u32 * 16777216 + t as u32 * 65536 + u as u32 * 256 + v as u32,
+        system: codings / 16,
+        inner: codings % 16,
+        split: format / 128,
+        format: format % 32,
+        symbols: (s3 % 16) as u32 * 16777216 + s2 as u32 * 65536 + s1 as u32 * 256 + s0 as u32,
     }
 }
 
@@ -105,17 +108,17 @@ fn mode_fair(index: u16, m: Mode) -> bool
     false
 }
 
-// Behind the record at a place, at an index, and its descriptors.
+// The place behind the record at a place, which takes the given index, and behind its descriptors; or 8, 9, 10.
 pub fn mode_step(b: &[u8], at: usize, index: u16) -> Skip
     ensures { λ r. ⌜ Stands (now (b .entry)) r (entry mms index (from (now (b .entry)) at)) ⌝ }
 {
-    if bytes::room(b, at) < 6 {
+    if bytes::room(b, at) < SIZE {
         return Skip::Refused(8);
     }
-    let r = bytes::part(b, at, 6);
+    let r = bytes::part(b, at, SIZE);
     if mode_zeros(r) {
         if mode_fair(index, mode_of(r)) {
-            return counted::past_counted(b, at + 6, true);
+            return counted::past_counted(b, at + SIZE, true);
         }
         return Skip::Refused(10);
     }

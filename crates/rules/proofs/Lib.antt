@@ -4,3 +4,6 @@ pub mod Examples
 pub mod Readings
 pub mod Taken
 pub mod Closing
+pub mod Places
+pub mod Right
+pub mod Asking

@@ -1,65 +1,39 @@
 -- Laws of the closing list at a place: one turn of each of the two loops over it.
 use Prim.Native.Nat.{ℕ, _+_, _-_, _≤_, _<_}
 use native.Mathlib.Omega.{arith}
-use native.Mathlib.Nat.{add-zero}
 use mathlib.Core.Path.{_≡_, refl, sym, ap, _∙_}
 use mathlib.Core.Bool.{true, false, cond}
 use mathlib.Core.List.{List, _∷_, _++_, append-nil}
-use lib.ListN.{length, take, length-take}
-use lib.Seq.{getD-drop}
+use lib.ListN.{length, length-take}
 use lib.Dec.{eqb}
-use borrow.Author.Tests.{leb-true, eq-eqb, ne-eqb}
+use borrow.Author.Tests.{eq-eqb, ne-eqb}
 use Rattle.rules.specs.Bytes.{Got, refused, got, andThen, giving, byte, from}
 use Rattle.rules.specs.Descriptors.{Descriptor, descriptor, closing, bodies}
 use Rattle.rules.specs.Section.{revisionTag, revision, firstOf}
 use Rattle.rules.specs.declared.Revision.{Revision}
 use Rattle.rules.specs.declared.Asked.the-variants as asked
-use Rattle.rules.proofs.Taken.{unless-got}
 use Rattle.rules.proofs.Closing.{closing-end, closing-got, closing-no}
 use Rattle.records.specs.Place.{Stands}
 use Rattle.section.specs.Closes.{closedOf, seenOf, seenWith, listed, firstIn}
-use Rattle.records.specs.declared.descriptors.Skip.{Skip}
-use Rattle.records.specs.declared.descriptors.Skip.the-variants.{At}
+use Rattle.records.specs.declared.Skip.{Skip}
+use Rattle.records.specs.declared.Skip.the-variants.{At}
 use Rattle.section.specs.declared.closing.Seen.{Seen}
 use Rattle.section.specs.declared.closing.Seen.the-variants.{Nothing, Once, Again}
-use Rattle.records.proofs.Laws.{from-from, from-length, at-in, at-got, descAt}
-
-byte-from : (b : List ℕ) (at j : ℕ) → byte j (from b at) ≡ byte (at + j) b
-unfolding byte from
-byte-from b at j = rw getD-drop
+use Rattle.rules.proofs.Places.{from-length, same-place, descAt, behind, descriptor-at}
+use Rattle.records.proofs.Laws.{at-in, at-got}
 
 -- a whole descriptor stands between two places
 pub record Here (b : List ℕ) (at i : ℕ) : Type 0 where
   pub is : descriptor (from b at) ≡ got (descAt b at) (from b i)
-  pub next : i ≡ at + 2 + byte (at + 1) b
+  pub next : i ≡ behind b at
   pub within : i ≤ length b
 
 pub here : (b : List ℕ) (at : ℕ) (r : Skip) → Stands b r (descriptor (from b at)) → (i : ℕ) → r ≡ At i → Here b at i
-unfolding descriptor
 here b at r s i e =
     let g = at-got b r (descriptor (from b at)) s i e in
     let inside = at-in b r (descriptor (from b at)) s i e in
-    let two = unless-got _ _ _ _ _ (g .1) in
-    let fits = unless-got _ _ _ _ _ (two .1) in
-    let one : byte 1 (from b at) ≡ byte (at + 1) b = byte-from b at 1 in
-    let body : g .0 ≡ record { tag = byte 0 (from b at); body = take (byte 1 (from b at)) (from (from b at) 2) } = cc in
-    let rest : from b i ≡ from (from b at) (2 + byte 1 (from b at)) = cc in
-    record {
-      is = g .1 ∙ ap (λ (d : Descriptor). got d (from b i)) (body ∙ rw (byte-from b at 0, one, from-from b at 2, add-zero));
-      next =
-          omega (
-            arith,
-            inside,
-            one,
-            leb-true 2 (length (from b at)) (two .0),
-            leb-true (byte 1 (from b at)) (length (from b at) - 2) (fits .0),
-            from-length b at,
-            from-length b i,
-            from-length (from b at) (2 + byte 1 (from b at)),
-            ap length rest,
-          );
-      within = inside;
-    }
+    let d = descriptor-at b at (g .0) (from b i) (g .1) in
+    record { is = g .1 ∙ ap (λ (x : Descriptor). got x (from b i)) (d .0); next = same-place b i (behind b at) inside (d .2) (d .1); within = inside }
 
 -- ---- the revision: what is met so far, and then what the list from here on has
 

@@ -4,21 +4,23 @@ use native.Mathlib.Omega.{arith}
 use mathlib.Core.Path.{_≡_, refl, sym, subst, _∙_}
 use mathlib.Core.Bool.{Bool, true, false, _&&_}
 use mathlib.Core.List.{List}
-use lib.ListN.{length, take}
+use lib.ListN.{length}
 use lib.Dec.{leb, ltb}
 use borrow.Author.Tests.{leb-true}
-use Rattle.rules.specs.Bytes.{Got, refused, got, andThen, giving, byte, from}
-use Rattle.rules.specs.Layout.{Numbered, entry, records, head}
-use Rattle.rules.specs.Tables.{carriersFair, cds, assigned, modeFair, mms, vcmHeadOf, vcmHead, vcm, dcmHeadOf, dcmHead, rangeFair, dcm}
+use Rattle.rules.specs.Bytes.{Got, refused, got, unless, andThen, giving, from}
+use Rattle.rules.specs.Descriptors.{counted}
+use Rattle.rules.specs.Layout.{Layout, Numbered, numbered, bare, entry, records, head}
+use Rattle.rules.specs.Tables.{carriersFair, cds, assigned, modeFair, mms, vcmHead, channelFair, vcm, dcmHead, rangeFair, dcm}
 use Rattle.rules.specs.Section.{Structure, channels, ranges, structure, recordsAt, countOf}
 use Rattle.rules.specs.declared.Table.{Table}
 use Rattle.rules.specs.declared.Table.the-variants.{Cds, Mms, Vcm, Dcm}
 use Rattle.rules.specs.declared.VcmHead.{VcmHead}
 use Rattle.rules.specs.declared.DcmHead.{DcmHead}
-use Rattle.rules.proofs.Taken.{giving-got, records-count}
-use Rattle.records.specs.Place.{Stands}
-use Rattle.section.specs.Kinds.{RecordOf, layoutOf, Area, outlined, Outlines}
-use Rattle.records.specs.declared.descriptors.Skip.{Skip}
+use Rattle.rules.proofs.Taken.{giving-got, bare-got, records-count}
+use Rattle.rules.proofs.Places.{from-from, from-length}
+use Rattle.records.specs.Place.{leftOf, Stands}
+use Rattle.records.specs.declared.Skip.{Skip}
+use Rattle.section.specs.Kinds.{RecordOf, layoutOf, headed, outlineOf}
 use Rattle.section.specs.declared.structure.Outline.{Outline}
 use Rattle.section.specs.declared.structure.Outline.the-variants as outline
 use Rattle.section.specs.declared.structure.Kind.{Kind}
@@ -39,6 +41,23 @@ top Modes index r h e = let l = leb-true index 255 (second (assigned r) (leb ind
 top (Channels included) index r h e = omega arith
 top Ranges index r h e = let l = leb-true (index + r .count) 4096 (second (ltb 0 (r .count)) (leb (index + r .count) 4096) e) in omega arith
 
+-- the index is not looked at in a channel record
+same-left : {R : Type 0} (x y z d : Bool) (a b : R) (rest : List ℕ) → leftOf (andThen (unless x 8 (unless y 9 (unless z 10 (got a rest)))) (λ r l. giving (λ u. r) (counted d l))) ≡ leftOf (andThen (unless x 8 (unless y 9 (unless z 10 (got b rest)))) (λ r l. giving (λ u. r) (counted d l)))
+unfolding unless andThen leftOf giving
+same-left true true true d a b rest = go (counted d rest)
+  where
+    go : (g : Got Unit) → leftOf (giving (λ u. a) g) ≡ leftOf (giving (λ u. b) g)
+    go (refused n) = refl
+    go (got u l) = refl
+same-left true true false d a b rest = refl
+same-left true false z d a b rest = refl
+same-left false y z d a b rest = refl
+
+pub any-index : (included index : ℕ) (b : List ℕ) (r : Skip) (bs : List ℕ) → Stands b r (entry (vcm included) 0 bs) → Stands b r (entry (vcm included) index bs)
+unfolding entry bare vcm channelFair
+any-index included index b r bs s =
+    record { means = s .means ∙ same-left _ _ _ _ (numbered (vcm included) 0 bs) (numbered (vcm included) index bs) (from bs 9); within = s .within }
+
 -- ---- where the records stand
 
 giving-giving : {A B C : Type 0} (f : A → B) (k : B → C) (g : Got A) → giving k (giving f g) ≡ giving (λ a. k (f a)) g
@@ -46,40 +65,62 @@ unfolding giving
 giving-giving f k (refused n) = refl
 giving-giving f k (got a rest) = refl
 
-module _ (b : List ℕ) where
-  pub cds-area : 7 ≤ length b → Outlines Cds b (outline.Records Carriers 7 (byte 4 b) (byte 5 b))
-  unfolding structure countOf recordsAt layoutOf
-  cds-area h = record { is = record { same = giving-giving _ countOf _; behind = refl; within = h } }
+-- so many records of a kind stand at a place: the structure has as many, and leaves the same bytes
+pub record Area (t : Table) (b : List ℕ) (k : Kind) (start first count : ℕ) : Type 0 where
+  pub same : giving countOf (structure t b) ≡ giving length (records (layoutOf k) count first (from b start))
+  pub behind : start ≡ recordsAt t
+  pub within : start ≤ length b
 
-  pub mms-area : 7 ≤ length b → Outlines Mms b (outline.Records Modes 7 (byte 4 b) (byte 5 b))
-  unfolding structure countOf recordsAt layoutOf
-  mms-area h = record { is = record { same = giving-giving _ countOf _; behind = refl; within = h } }
+abbrev outlined : Table → List ℕ → Outline → Type 0
+outlined t b (outline.Refused n) = structure t b ≡ refused n
+outlined t b (outline.Records k start first count) = Area t b k start first count
 
-  pub vcm-no : (n : ℕ) → head vcmHead (from b 7) ≡ refused n → Outlines Vcm b (outline.Refused n)
-  unfolding structure andThen
-  vcm-no n e = record { is = rw e }
+-- a head that was got has its bytes, and what is left stands behind them
+head-place : {R : Type 0} (l : Layout R) (b : List ℕ) (h : R) (rest : List ℕ) → 7 ≤ length b → head l (from b 7) ≡ got h rest → (rest ≡ from b (7 + l .size)) × (7 + l .size ≤ length b)
+unfolding head
+head-place l b h rest w e =
+    let g = giving-got _ _ _ _ e in
+    let t = bare-got l 0 (from b 7) (g .0) rest (g .1) in
+    (t .4 ∙ from-from b 7 (l .size), omega (arith, t .0, from-length b 7))
 
-  pub vcm-area : (h : VcmHead) → h ≡ vcmHeadOf (take 7 (from b 7)) → head vcmHead (from b 7) ≡ got (vcmHeadOf (take 7 (from b 7))) (from b 14) → 14 ≤ length b → Outlines Vcm b (outline.Records (Channels (h .included)) 14 0 (h .count))
-  unfolding structure andThen countOf recordsAt layoutOf vcmHead
-  vcm-area h q e w = record { is = record { same = rw (e, ← q) (giving-giving (channels h) countOf _); behind = refl; within = w } }
+module _ {R : Type 0} (f : R → Outline) (g : Got R) where
+  pub headed-no : (n : ℕ) → g ≡ refused n → outline.Refused n ≡ headed f g
+  unfolding headed
+  headed-no n e = rw e
 
-  pub dcm-no : (n : ℕ) → head dcmHead (from b 7) ≡ refused n → Outlines Dcm b (outline.Refused n)
-  unfolding structure andThen
-  dcm-no n e = record { is = rw e }
+  pub headed-so : (h : R) (rest : List ℕ) → g ≡ got h rest → f h ≡ headed f g
+  unfolding headed
+  headed-so h rest e = rw e
 
-  pub dcm-area : (h : DcmHead) → h ≡ dcmHeadOf (take 3 (from b 7)) → head dcmHead (from b 7) ≡ got (dcmHeadOf (take 3 (from b 7))) (from b 10) → 10 ≤ length b → Outlines Dcm b (outline.Records Ranges 10 (h .first) (h .length))
-  unfolding structure andThen countOf recordsAt layoutOf dcmHead
-  dcm-area h q e w = record { is = record { same = rw (e, ← q) (giving-giving (ranges h) countOf _); behind = refl; within = w } }
+module _ (b : List ℕ) (w : 7 ≤ length b) where
+  vcm-says : (g : Got VcmHead) → head vcmHead (from b 7) ≡ g → outlined Vcm b (headed (λ h. outline.Records (Channels (h .included)) (recordsAt Vcm) 0 (h .count)) g)
+  unfolding structure andThen headed countOf recordsAt layoutOf
+  vcm-says (refused n) e = rw e
+  vcm-says (got h rest) e =
+      let p = head-place vcmHead b h rest w e in
+      record { same = rw (e, p .0) (giving-giving (channels h) countOf _); behind = refl; within = p .1 }
 
-pub outlined-as : (t u : Table) (b : List ℕ) (r : Outline) → t ≡ u → Outlines u b r → Outlines t b r
-outlined-as t u b r e o = subst (λ (x : Table). Outlines x b r) (sym e) o
+  dcm-says : (g : Got DcmHead) → head dcmHead (from b 7) ≡ g → outlined Dcm b (headed (λ h. outline.Records Ranges (recordsAt Dcm) (h .first) (h .length)) g)
+  unfolding structure andThen headed countOf recordsAt layoutOf
+  dcm-says (refused n) e = rw e
+  dcm-says (got h rest) e =
+      let p = head-place dcmHead b h rest w e in
+      record { same = rw (e, p .0) (giving-giving (ranges h) countOf _); behind = refl; within = p .1 }
 
-module _ (t : Table) (b : List ℕ) (r : Outline) (o : Outlines t b r) where
-  pub outlined-no : (n : ℕ) → r ≡ outline.Refused n → structure t b ≡ refused n
-  outlined-no n e = subst (λ (x : Outline). outlined t b x) e (o .is)
+  -- the outline says where the records of the structure stand
+  outline-says : (t : Table) → outlined t b (outlineOf t b)
+  unfolding outlineOf structure countOf recordsAt layoutOf
+  outline-says Cds = record { same = giving-giving _ countOf _; behind = refl; within = w }
+  outline-says Mms = record { same = giving-giving _ countOf _; behind = refl; within = w }
+  outline-says Vcm = vcm-says (head vcmHead (from b 7)) refl
+  outline-says Dcm = dcm-says (head dcmHead (from b 7)) refl
 
-  pub outlined-area : (k : Kind) (start first count : ℕ) → r ≡ outline.Records k start first count → Area t b k start first count
-  outlined-area k start first count e = subst (λ (x : Outline). outlined t b x) e (o .is)
+  module _ (t : Table) (r : Outline) (o : r ≡ outlineOf t b) where
+    pub outlined-no : (n : ℕ) → r ≡ outline.Refused n → structure t b ≡ refused n
+    outlined-no n e = subst (λ (x : Outline). outlined t b x) (sym o ∙ e) (outline-says t)
+
+    pub outlined-area : (k : Kind) (start first count : ℕ) → r ≡ outline.Records k start first count → Area t b k start first count
+    outlined-area k start first count e = subst (λ (x : Outline). outlined t b x) (sym o ∙ e) (outline-says t)
 
 -- the walk over an area says what the structure says
 module _ (t : Table) (b : List ℕ) (k : Kind) (start first count : ℕ) (a : Area t b k start first count) where
@@ -93,6 +134,4 @@ module _ (t : Table) (b : List ℕ) (k : Kind) (start first count : ℕ) (a : Ar
 
   pub area-so : (rs : List (Numbered (RecordOf k))) (rest : List ℕ) → records (layoutOf k) count first (from b start) ≡ got rs rest → (x : Structure) × (structure t b ≡ got x rest) × (count ≡ countOf x)
   unfolding giving
-  area-so rs rest e =
-      let g = giving-got countOf (structure t b) count rest (a .same ∙ records-count (layoutOf k) count first (from b start) ∙ rw e) in
-      (g .0, g .1, g .2)
+  area-so rs rest e = giving-got countOf (structure t b) count rest (a .same ∙ records-count (layoutOf k) count first (from b start) ∙ rw e)

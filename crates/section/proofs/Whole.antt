@@ -1,31 +1,31 @@
 -- From the stages of the reader to the whole section.
-use Prim.Native.Nat.{ℕ, _+_, _-_, _≤_, _<_, _%_}
+use Prim.Native.Nat.{ℕ, _-_, _≤_, _<_, _%_}
 use native.Mathlib.Omega.{arith}
-use mathlib.Core.Path.{_≡_, refl, sym, ap, subst, _∙_}
-use mathlib.Core.Bool.{Bool, true, false, _&&_, _||_}
+use mathlib.Core.Path.{_≡_, refl, sym, ap, _∙_}
+use mathlib.Core.Bool.{true, false, _||_}
 use mathlib.Core.List.{List}
 use mathlib.Core.Option.{Option, none, some}
 use lib.ListN.{length}
-use lib.Dec.{leb, eqb}
+use lib.Dec.{eqb}
 use borrow.Author.Tests.{leb-true, eq-eqb, ne-eqb, lt-ltb, le-ltb}
 use Rattle.rules.specs.Bytes.{Got, refused, got, unless, andThen, giving, byte, from}
 use Rattle.rules.specs.Crc.{crcOf}
 use Rattle.rules.specs.Descriptors.{Descriptor, closing, bodies}
-use Rattle.rules.specs.Section.{lengthOf, mediumAt, named, given, headerWhole, header, mapOf, Structure, structure, revisionTag, revision, Content, contentOf, content, fitting, withoutCrc, whole, read, readSection, recordsAt, countOf, closingAt, headOf, readAs, firstOf, askedOf, ask}
+use Rattle.rules.specs.Section.{mediumAt, named, headerWhole, header, mapOf, Structure, structure, revisionTag, revision, Content, contentOf, content, fitting, withoutCrc, whole, Reading, wrong, right, read, readSection, recordsAt, countOf, closingAt, headOf, readAs, firstOf, askedOf, ask, given}
 use Rattle.rules.specs.declared.Table.{Table}
 use Rattle.rules.specs.declared.Revision.{Revision}
 use Rattle.rules.specs.declared.SectionHead.{SectionHead}
-use Rattle.rules.specs.declared.Read.{Read}
 use Rattle.rules.specs.declared.Read.the-variants as reads
 use Rattle.rules.specs.declared.Asked.the-variants as asked
 use Rattle.rules.proofs.Taken.{unless-got, then-got, given-got}
 use Rattle.rules.proofs.Closing.{closing-size}
+use Rattle.rules.proofs.Places.{from-length}
+use Rattle.rules.proofs.Right.{reads-right, closing-place}
 use Rattle.section.specs.Closes.{closedAs, closedOf, listed, firstIn}
-use Rattle.section.specs.Reads.{namedAs, headerAs, Listed, shown, Tells}
+use Rattle.section.specs.Reads.{namedAs, headerAs, shown}
 use Rattle.section.specs.declared.header.Named.the-variants as named
 use Rattle.section.specs.declared.header.Header.the-variants as header
 use Rattle.section.specs.declared.closing.Closed.the-variants as closed
-use Rattle.records.proofs.Laws.{from-length}
 
 -- ---- the header
 
@@ -79,13 +79,9 @@ module _ (g : Got Table) where
 
 -- ---- the content
 
--- an answer tells what another reading tells that is the same
-pub tells-as : (b : List ℕ) (r : Read) (g h : Got Content) → g ≡ h → Tells b r h → Tells b r g
-tells-as b r g h e s = subst (λ (x : Got Content). Tells b r x) (sym e) s
-
-pub tells-no : (b : List ℕ) (n : ℕ) (g : Got Content) → g ≡ refused n → Tells b (reads.Refused n) g
+pub shown-no : (b : List ℕ) (n : ℕ) (g : Got Content) → g ≡ refused n → reads.Refused n ≡ shown b g
 unfolding shown
-tells-no b n g e = tells-as b (reads.Refused n) g (refused n) e (record { is = refl; lists = tt })
+shown-no b n g e = sym (ap (shown b) e)
 
 pub content-unheaded : (b : List ℕ) (n : ℕ) → header b ≡ refused n → content b ≡ refused n
 unfolding content andThen
@@ -103,22 +99,7 @@ unfolding closedAs
 closed-got (refused n) r q = let z : _≡_ {A = ℕ} 0 1 = cc in absurd (omega arith)
 closed-got (got s rest) r q = (rest, cc)
 
--- the closing list behind a structure, and its place
-list-got : (tail : List ℕ) (r : Revision) (rest : List ℕ) → closedOf tail ≡ got r rest → (ds : List Descriptor) × (end : List ℕ) × (closing tail ≡ got ds end) × (revision (bodies revisionTag ds) ≡ got r rest)
-unfolding closedOf
-list-got tail r rest e = let d = then-got _ _ _ _ e in (d .value, d .behind, d .one, d .more)
-
-place-of : (b : List ℕ) (at : ℕ) → at ≤ length b → (ds : List Descriptor) (end : List ℕ) → closing (from b at) ≡ got ds end → closingAt b ds ≡ at
-unfolding closingAt
-place-of b at h ds end e = omega (arith, closing-size (from b at) ds end e, from-length b at)
-
 module _ (t : Table) (b : List ℕ) where
-  told : (x : Structure) (at : ℕ) (r : Revision) (ds : List Descriptor) (end rest : List ℕ) → closingAt b ds ≡ at → closing (from b at) ≡ got ds end
-      → (map start count : ℕ) → map ≡ mapOf b → start ≡ recordsAt t → count ≡ countOf x
-      → Tells b (reads.Right (record { table = t; map = map; revision = r; records = start; count = count; closing = at })) (got (made t b x ds r) rest)
-  unfolding shown headOf
-  told x at r ds end rest p e map start count m a n = record { is = rw (p, m, a, n); lists = (end, rw p e) }
-
   pub content-no : (n : ℕ) → structure t b ≡ refused n → contentOf t b ≡ refused n
   unfolding contentOf andThen
   content-no n e = rw e
@@ -140,14 +121,22 @@ module _ (t : Table) (b : List ℕ) where
     unfolding contentOf andThen giving
     content-is ds end r rest c v = rw (e, c, v)
 
-    pub content-so : at ≤ length b → (r : Revision) → closed.Revised r ≡ closedAs (closedOf (from b at))
-        → (map start count : ℕ) → map ≡ mapOf b → start ≡ recordsAt t → count ≡ countOf x
-        → Tells b (reads.Right (record { table = t; map = map; revision = r; records = start; count = count; closing = at })) (contentOf t b)
+    -- the closing list has the bytes from its place on
+    place-of : at ≤ length b → (ds : List Descriptor) (end : List ℕ) → closing (from b at) ≡ got ds end → closingAt b ds ≡ at
+    unfolding closingAt
+    place-of h ds end c = omega (arith, closing-size (from b at) ds end c, from-length b at)
+
+    list-got : (r : Revision) → closed.Revised r ≡ closedAs (closedOf (from b at)) → (ds : List Descriptor) × (end : List ℕ) × (rest : List ℕ) × (closing (from b at) ≡ got ds end) × (revision (bodies revisionTag ds) ≡ got r rest)
+    unfolding closedOf
+    list-got r q = let c = closed-got _ r q in let d = then-got _ _ _ _ (c .1) in (d .value, d .behind, c .0, d .one, d .more)
+
+    pub content-so : at ≤ length b → (r : Revision) → closed.Revised r ≡ closedAs (closedOf (from b at)) → (map start count : ℕ) → map ≡ mapOf b → start ≡ recordsAt t → count ≡ countOf x
+        → reads.Right (record { table = t; map = map; revision = r; records = start; count = count; closing = at }) ≡ shown b (contentOf t b)
+    unfolding shown headOf
     content-so h r q map start count m a n =
-        let c = closed-got (closedOf (from b at)) r q in
-        let d = list-got (from b at) r (c .0) (c .1) in
-        tells-as b _ _ (got (made t b x (d .0) r) (c .0)) (content-is (d .0) (d .1) r (c .0) (d .2) (d .3))
-        (told x at r (d .0) (d .1) (c .0) (place-of b at h (d .0) (d .1) (d .2)) (d .2) map start count m a n)
+        let l = list-got r q in
+        let p = place-of h (l .0) (l .1) (l .3) in
+        rw (content-is (l .0) (l .1) r (l .2) (l .3) (l .4), p, m, a, n)
 
 -- ---- the whole section
 
@@ -174,61 +163,51 @@ module _ (s : List ℕ) where
       unfolding whole unless
       whole-so c p = rw (f, n, eq-eqb _ _ c, eq-eqb _ _ p)
 
-  pub fitting-long : fitting s ≡ true → 8 ≤ length s
-  unfolding fitting
-  fitting-long f = leb-true 8 (length s) (both-left _ (eqb (length s) (3 + lengthOf s)) (both-left _ (leb (lengthOf s) 1021) f))
-    where
-      both-left : (a b : Bool) → (a && b) ≡ true → a ≡ true
-      both-left true b e = refl
-      both-left false b e = e
+  pub reads-no : (n : ℕ) → whole s ≡ refused n → reads.Refused n ≡ readAs s (readSection s)
+  unfolding readSection read readAs
+  reads-no n e = rw e
 
-  pub whole-long : (c : Content) (rest : List ℕ) → whole s ≡ got c rest → 8 ≤ length s
-  unfolding whole
-  whole-long c rest e = fitting-long (unless-got _ _ _ _ _ e .0)
-
--- ---- what is told of a section is what the rules say of it
-
-module _ (s : List ℕ) (r : Read) (t : Tells (withoutCrc s) r (whole s)) where
-  pub told-reads : r ≡ readAs s (readSection s)
+  pub reads-content : whole s ≡ content (withoutCrc s) → shown (withoutCrc s) (content (withoutCrc s)) ≡ readAs s (readSection s)
   unfolding readSection shown read readAs
-  told-reads = t .is ∙ go (whole s)
+  reads-content e = go (content (withoutCrc s)) ∙ ap (λ (g : Got Content). readAs s (read g)) (sym e)
     where
       go : (g : Got Content) → shown (withoutCrc s) g ≡ readAs s (read g)
       go (refused n) = refl
       go (got c rest) = refl
 
-  shown-no : (g : Got Content) (n : ℕ) → reads.Refused n ≡ shown (withoutCrc s) g → g ≡ refused n
-  unfolding shown
-  shown-no (refused m) n e = cc
-  shown-no (got c rest) n e = let z : _≡_ {A = ℕ} 0 1 = cc in absurd (omega arith)
+-- ---- the descriptor question
 
-  shown-got : (g : Got Content) (h : SectionHead) → reads.Right h ≡ shown (withoutCrc s) g → (c : Content) × (rest : List ℕ) × (g ≡ got c rest) × (h .closing ≡ closingAt (withoutCrc s) (c .closing))
-  unfolding shown headOf
-  shown-got (refused n) h e = let z : _≡_ {A = ℕ} 0 1 = cc in absurd (omega arith)
-  shown-got (got c rest) h e = (c, rest, refl, cc)
+module _ (s : List ℕ) where
+  pub ask-refused : (tag n : ℕ) → reads.Refused n ≡ readAs s (readSection s) → asked.Refused n ≡ ask tag s
+  unfolding ask askedOf readAs
+  ask-refused tag n e = go (readSection s) e
+    where
+      go : (g : Reading) → reads.Refused n ≡ readAs s g → asked.Refused n ≡ askedOf tag s g
+      go (wrong m) q = cc
+      go (right c) q = let z : _≡_ {A = ℕ} 0 1 = cc in absurd (omega arith)
 
-  pub told-refused : (tag n : ℕ) → r ≡ reads.Refused n → asked.Refused n ≡ ask tag s
-  unfolding ask askedOf readSection read
-  told-refused tag n e = rw (shown-no (whole s) n (sym e ∙ t .is))
+  right-of : (h : SectionHead) (g : Reading) → reads.Right h ≡ readAs s g → (c : Content) × (g ≡ right c) × (h .closing ≡ closingAt (withoutCrc s) (c .closing))
+  unfolding readAs headOf
+  right-of h (wrong n) q = let z : _≡_ {A = ℕ} 0 1 = cc in absurd (omega arith)
+  right-of h (right c) q = (c, refl, cc)
 
-  module _ (h : SectionHead) (e : r ≡ reads.Right h) where
-    abbrev found : (c : Content) × (rest : List ℕ) × (whole s ≡ got c rest) × (h .closing ≡ closingAt (withoutCrc s) (c .closing))
-    found = shown-got (whole s) h (sym e ∙ t .is)
+  module _ (h : SectionHead) (e : reads.Right h ≡ readAs s (readSection s)) where
+    abbrev found : (c : Content) × (readSection s ≡ right c) × (h .closing ≡ closingAt (withoutCrc s) (c .closing))
+    found = right-of h (readSection s) e
 
-    pub told-long : 8 ≤ length s
-    told-long = whole-long s (found .0) (found .1) (found .2)
+    pub read-long : 8 ≤ length s
+    read-long = reads-right s (found .0) (found .1) .long
 
-    told-list : (end : List ℕ) × (closing (from (withoutCrc s) (h .closing)) ≡ got (found .0 .closing) end)
-    told-list =
-        let l : Listed (withoutCrc s) (got (found .0) (found .1)) = subst (λ (g : Got Content). Listed (withoutCrc s) g) (found .2) (t .lists) in
-        (l .0, ap (λ (at : ℕ). closing (from (withoutCrc s) at)) (found .3) ∙ l .1)
+    list : (end : List ℕ) × (closing (from (withoutCrc s) (h .closing)) ≡ got (found .0 .closing) end)
+    list =
+        let p = closing-place (withoutCrc s) (found .0) (reads-right s (found .0) (found .1) .made) in
+        (p .0, ap (λ (at : ℕ). closing (from (withoutCrc s) at)) (found .2) ∙ p .1)
 
-    pub told-listed : listed (closing (from (withoutCrc s) (h .closing))) ≡ true
+    pub ask-listed : listed (closing (from (withoutCrc s) (h .closing))) ≡ true
     unfolding listed
-    told-listed = ap listed (told-list .1)
+    ask-listed = ap listed (list .1)
 
-    pub told-asks : (tag : ℕ) → firstIn tag (h .closing) (closing (from (withoutCrc s) (h .closing))) ≡ ask tag s
-    unfolding ask askedOf readSection read firstIn
-    told-asks tag =
-        ap (firstIn tag (h .closing)) (told-list .1) ∙ ap (λ (at : ℕ). firstOf tag at (found .0 .closing)) (found .3)
-        ∙ ap (λ (g : Got Content). askedOf tag s (read g)) (sym (found .2))
+    pub ask-first : (tag : ℕ) → firstIn tag (h .closing) (closing (from (withoutCrc s) (h .closing))) ≡ ask tag s
+    unfolding ask askedOf firstIn
+    ask-first tag =
+        ap (firstIn tag (h .closing)) (list .1) ∙ ap (λ (at : ℕ). firstOf tag at (found .0 .closing)) (found .2) ∙ ap (askedOf tag s) (sym (found .1))

@@ -1,13 +1,12 @@
--- The layout of each kind of record, and what the outline of a structure says.
-use Prim.Native.Nat.{ℕ, _≤_}
-use mathlib.Core.Path.{_≡_}
+-- The layout of each kind of record, and where the records of each structure stand.
+use Prim.Native.Nat.{ℕ}
 use mathlib.Core.List.{List}
-use lib.ListN.{length}
-use Rattle.rules.specs.Bytes.{refused, giving, from}
-use Rattle.rules.specs.Layout.{Layout, records}
-use Rattle.rules.specs.Tables.{cds, mms, vcm, dcm}
-use Rattle.rules.specs.Section.{structure, countOf, recordsAt}
+use Rattle.rules.specs.Bytes.{Got, refused, got, byte, from}
+use Rattle.rules.specs.Layout.{Layout, head}
+use Rattle.rules.specs.Tables.{cds, mms, vcmHead, vcm, dcmHead, dcm}
+use Rattle.rules.specs.Section.{recordsAt}
 use Rattle.rules.specs.declared.Table.{Table}
+use Rattle.rules.specs.declared.Table.the-variants.{Cds, Mms, Vcm, Dcm}
 use Rattle.rules.specs.declared.Carriers.{Carriers}
 use Rattle.rules.specs.declared.Mode.{Mode}
 use Rattle.rules.specs.declared.Channel.{Channel}
@@ -29,15 +28,14 @@ layoutOf kind.Modes = mms
 layoutOf (kind.Channels included) = vcm included
 layoutOf kind.Ranges = dcm
 
--- the records of a structure are those of a kind that begin at a place, and there are so many
-pub record Area (t : Table) (b : List ℕ) (k : Kind) (start first count : ℕ) : Type 0 where
-  pub same : giving countOf (structure t b) ≡ giving length (records (layoutOf k) count first (from b start))
-  pub behind : start ≡ recordsAt t
-  pub within : start ≤ length b
+-- by what the head says, or its refusal
+unfoldable pub headed : {R : Type 0} → (R → Outline) → Got R → Outline
+headed f (refused n) = outline.Refused n
+headed f (got h rest) = f h
 
-abbrev pub outlined : Table → List ℕ → Outline → Type 0
-outlined t b (outline.Refused n) = structure t b ≡ refused n
-outlined t b (outline.Records k start first count) = Area t b k start first count
-
-pub record Outlines (t : Table) (b : List ℕ) (r : Outline) : Type 0 where
-  pub is : outlined t b r
+-- of the section without its CRC: kind, place, first index or channel, and count of its records
+unfoldable pub outlineOf : Table → List ℕ → Outline
+outlineOf Cds b = outline.Records kind.Carriers (recordsAt Cds) (byte 4 b) (byte 5 b)
+outlineOf Mms b = outline.Records kind.Modes (recordsAt Mms) (byte 4 b) (byte 5 b)
+outlineOf Vcm b = headed (λ h. outline.Records (kind.Channels (h .included)) (recordsAt Vcm) 0 (h .count)) (head vcmHead (from b 7))
+outlineOf Dcm b = headed (λ h. outline.Records kind.Ranges (recordsAt Dcm) (h .first) (h .length)) (head dcmHead (from b 7))

@@ -1,11 +1,9 @@
 -- What the reader's answers mean, stage by stage.
-use mathlib.Core.Path.{_≡_}
 use mathlib.Core.List.{List}
 use mathlib.Core.Option.{Option, none, some}
 use Prim.Native.Nat.{ℕ}
-use Rattle.rules.specs.Bytes.{Got, refused, got, from}
-use Rattle.rules.specs.Descriptors.{closing}
-use Rattle.rules.specs.Section.{Content, closingAt, headOf}
+use Rattle.rules.specs.Bytes.{Got, refused, got}
+use Rattle.rules.specs.Section.{Content, headOf}
 use Rattle.rules.specs.declared.Table.{Table}
 use Rattle.rules.specs.declared.Read.{Read}
 use Rattle.rules.specs.declared.Read.the-variants as read
@@ -22,16 +20,7 @@ unfoldable pub headerAs : Got Table → Header
 headerAs (refused n) = header.Refused n
 headerAs (got t rest) = header.Names t
 
--- the closing list stands where the head says
-abbrev pub Listed : List ℕ → Got Content → Type 0
-Listed b (refused n) = Unit
-Listed b (got c rest) = (end : List ℕ) × (closing (from b (closingAt b (c .closing))) ≡ got (c .closing) end)
-
+-- the reader's answer, of the section without its CRC
 unfoldable pub shown : List ℕ → Got Content → Read
 shown b (refused n) = read.Refused n
 shown b (got c rest) = read.Right (headOf b c)
-
--- r says of the bytes b what g says
-pub record Tells (b : List ℕ) (r : Read) (g : Got Content) : Type 0 where
-  pub is : r ≡ shown b g
-  pub lists : Listed b g

@@ -6,9 +6,9 @@ ghost use Rattle.rules.specs.Bytes.{from};
 ghost use Rattle.rules.specs.Descriptors.{closing};
 ghost use Rattle.rules.specs.Section.{revision};
 ghost use Rattle.section.specs.Closes.{closedAs, closedOf, seenOf, seenWith, listed, firstIn};
+use records::Skip;
 use records::bytes;
 use records::descriptors;
-use records::descriptors::Skip;
 use rules::Asked;
 use rules::Revision;
 

@@ -4,12 +4,12 @@ ghost use mathlib.Core.Path.{_≡_};
 ghost use Prim.Native.Nat.{_≤_};
 ghost use lib.Dec.{eqb};
 ghost use lib.ListN.{length};
-ghost use Rattle.rules.specs.Section.{fitting, lengthOf, contentOf, content, withoutCrc, whole, readSection, readAs, ask, partOf};
-ghost use Rattle.section.specs.Reads.{Tells};
+ghost use Rattle.rules.specs.Section.{fitting, lengthOf, contentOf, content, readSection, readAs, ask, partOf};
+ghost use Rattle.section.specs.Reads.{shown};
 use closing::Closed;
 use header::Header;
+use records::Skip;
 use records::bytes;
-use records::descriptors::Skip;
 use rules::Asked;
 use rules::Read;
 use rules::SectionHead;
@@ -54,7 +54,7 @@ fn is_table_number(number: u8) -> bool
 // Behind the header: the structure, then the closing list.
 fn structured(t: Table, b: &[u8]) -> Read
     requires { ⌜ 7 ≤ length (now b) ⌝ }
-    ensures { λ r. ⌜ Tells (now (b .entry)) r (contentOf t (now (b .entry))) ⌝ }
+    ensures { λ r. ⌜ r ≡ shown (now (b .entry)) (contentOf t (now (b .entry))) ⌝ }
 {
     let outline = structure::outline_of(t, b);
     match outline {
@@ -89,7 +89,7 @@ fn structured(t: Table, b: &[u8]) -> Read
 
 // The section without its CRC, front to back.
 fn content_of(b: &[u8]) -> Read
-    ensures { λ r. ⌜ Tells (now (b .entry)) r (content (now (b .entry))) ⌝ }
+    ensures { λ r. ⌜ r ≡ shown (now (b .entry)) (content (now (b .entry))) ⌝ }
 {
     let header = header::header_of(b);
     match header {
@@ -98,30 +98,23 @@ fn content_of(b: &[u8]) -> Read
     }
 }
 
-// Refusals 3 to 6, then the content.
-fn read_whole(s: &[u8]) -> Read
-    ensures { λ r. ⌜ Tells (withoutCrc (now (s .entry))) r (whole (now (s .entry))) ⌝ }
+// What a section reads as: the number of its refusal, or its head. Refusals 3 to 6 by number, and then its content.
+pub fn read_section(section: &[u8]) -> Read
+    ensures { λ r. ⌜ r ≡ readAs (now (section .entry)) (readSection (now (section .entry))) ⌝ }
 {
-    if is_fitting(s) {
-        if is_table_number(bytes::byte(s, 0)) {
-            if crc::crc(s) != 0 {
+    if is_fitting(section) {
+        if is_table_number(bytes::byte(section, 0)) {
+            if crc::crc(section) != 0 {
                 return Read::Refused(5);
             }
-            if bytes::byte(s, 3) % 32 != 0 {
+            if bytes::byte(section, 3) % 32 != 0 {
                 return Read::Refused(6);
             }
-            return content_of(&s[..s.len() - 4]);
+            return content_of(&section[..section.len() - 4]);
         }
         return Read::Refused(4);
     }
     Read::Refused(3)
-}
-
-// What a section reads as: the number of its refusal, or its head.
-pub fn read_section(section: &[u8]) -> Read
-    ensures { λ r. ⌜ r ≡ readAs (now (section .entry)) (readSection (now (section .entry))) ⌝ }
-{
-    read_whole(section)
 }
 
 // Where in a section the body of the first descriptor of a tag in its closing list stands, if the section reads right and
@@ -129,7 +122,7 @@ pub fn read_section(section: &[u8]) -> Read
 pub fn ask_descriptor(section: &[u8], tag: u8) -> Asked
     ensures { λ r. ⌜ r ≡ ask tag (now (section .entry)) ⌝ }
 {
-    let read = read_whole(section);
+    let read = read_section(section);
     match read {
         Read::Refused(n) => Asked::Refused(n),
         Read::Right(h) => closing::first_of(&section[..section.len() - 4], h.closing, tag),

@@ -5,12 +5,12 @@ ghost use lib.ListN.{length, take};
 ghost use Rattle.rules.specs.Bytes.{from};
 ghost use Rattle.rules.specs.Layout.{entry, records};
 ghost use Rattle.records.specs.Place.{Stands};
-ghost use Rattle.section.specs.Kinds.{layoutOf, Outlines};
+ghost use Rattle.section.specs.Kinds.{layoutOf, outlineOf};
 ghost use Rattle.rules.specs.declared.Table.the-variants as table;
+use records::Skip;
 use records::bytes;
 use records::carriers;
 use records::channels;
-use records::descriptors::Skip;
 use records::modes;
 use records::ranges;
 use rules::Table;
@@ -23,7 +23,7 @@ pub enum Kind {
     Ranges,
 }
 
-// Where the records of a structure begin, at which index or channel, and how many they are.
+// Where the records of a structure begin, at which index or channel, and how many there are.
 pub enum Outline {
     Refused(u8),
     Records {
@@ -40,7 +40,7 @@ fn step(k: Kind, b: &[u8], at: usize, index: u16) -> Skip
     match k {
         Kind::Carriers => carriers::carriers_step(b, at, index),
         Kind::Modes => modes::mode_step(b, at, index),
-        Kind::Channels(included) => channels::channel_step(b, at, index, included),
+        Kind::Channels(included) => channels::channel_step(b, at, included),
         Kind::Ranges => ranges::range_step(b, at, index),
     }
 }
@@ -51,19 +51,19 @@ fn takes(k: Kind, b: &[u8], at: usize) -> u8
 {
     match k {
         Kind::Carriers => {
-            let c = carriers::carriers_of(bytes::part(b, at, 5));
+            let c = carriers::carriers_of(bytes::part(b, at, carriers::SIZE));
             c.count
         }
         Kind::Modes => 1,
         Kind::Channels(_) => 0,
         Kind::Ranges => {
-            let r = ranges::range_of(bytes::part(b, at, 1));
+            let r = ranges::range_of(bytes::part(b, at, ranges::SIZE));
             r.count
         }
     }
 }
 
-// Behind so many records, the first of them at a place and an index.
+// The place behind so many records, the first of them at a place and an index; or 8, 9, 10.
 pub fn past_records(k: Kind, b: &[u8], start: usize, first: u16, count: u8) -> Skip
     requires { ⌜ start ≤ length (now b) ⌝ }
     ensures { λ r. ⌜ Stands (now (b .entry)) r (records (layoutOf k) count first (from (now (b .entry)) start)) ⌝ }
@@ -89,18 +89,17 @@ pub fn past_records(k: Kind, b: &[u8], start: usize, first: u16, count: u8) -> S
 }
 
 fn vcm_outline(b: &[u8]) -> Outline
-    requires { ⌜ 7 ≤ length (now b) ⌝ }
-    ensures { λ r. ⌜ Outlines table.Vcm (now (b .entry)) r ⌝ }
+    ensures { λ r. ⌜ r ≡ outlineOf table.Vcm (now (b .entry)) ⌝ }
 {
-    if bytes::room(b, 7) < 7 {
+    if bytes::room(b, 7) < channels::HEAD {
         return Outline::Refused(8);
     }
-    let r = bytes::part(b, 7, 7);
+    let r = bytes::part(b, 7, channels::HEAD);
     if channels::vcm_head_zeros(r) {
         let h = channels::vcm_head_of(r);
         return Outline::Records {
             kind: Kind::Channels(h.included),
-            start: 14,
+            start: 7 + channels::HEAD,
             first: 0,
             count: h.count,
         };
@@ -109,18 +108,17 @@ fn vcm_outline(b: &[u8]) -> Outline
 }
 
 fn dcm_outline(b: &[u8]) -> Outline
-    requires { ⌜ 7 ≤ length (now b) ⌝ }
-    ensures { λ r. ⌜ Outlines table.Dcm (now (b .entry)) r ⌝ }
+    ensures { λ r. ⌜ r ≡ outlineOf table.Dcm (now (b .entry)) ⌝ }
 {
-    if bytes::room(b, 7) < 3 {
+    if bytes::room(b, 7) < ranges::HEAD {
         return Outline::Refused(8);
     }
-    let r = bytes::part(b, 7, 3);
+    let r = bytes::part(b, 7, ranges::HEAD);
     if ranges::dcm_head_zeros(r) {
         let h = ranges::dcm_head_of(r);
         return Outline::Records {
             kind: Kind::Ranges,
-            start: 10,
+            start: 7 + ranges::HEAD,
             first: h.first,
             count: h.length,
         };
@@ -130,8 +128,7 @@ fn dcm_outline(b: &[u8]) -> Outline
 
 // The head of the structure, if it has one, taken whole.
 pub fn outline_of(t: Table, b: &[u8]) -> Outline
-    requires { ⌜ 7 ≤ length (now b) ⌝ }
-    ensures { λ r. ⌜ Outlines t (now (b .entry)) r ⌝ }
+    ensures { λ r. ⌜ r ≡ outlineOf t (now (b .entry)) ⌝ }
 {
     match t {
         Table::Cds => Outline::Records {

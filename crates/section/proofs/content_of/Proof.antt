@@ -1,7 +1,8 @@
 -- Without a header there is a refusal; with one the content is what the structure and the closing list say.
-use mathlib.Core.Path.{sym, _∙_}
+use mathlib.Core.Path.{sym, ap, _∙_}
 use borrow.Author.Needs.{needs}
-use Rattle.section.proofs.Whole.{header-long, header-got, header-no, tells-as, tells-no, content-unheaded, content-headed}
+use Rattle.section.specs.Reads.{shown}
+use Rattle.section.proofs.Whole.{header-long, header-got, header-no, shown-no, content-unheaded, content-headed}
 use Rattle.section.proofs.content_of.Statement.{statement}
 use Rattle.section.proofs.content_of.Tie as tie
 
@@ -9,10 +10,12 @@ structured-requires : tie.Need-structured-requires
 structured-requires c κs = let g = header-got _ _ (sym (c .before .header2 .given .1) ∙ c .before .before .before .header-of .ensures) in header-long _ _ (g .0) (g .1)
 
 returns : tie.Need-returns
-returns c = tells-no _ _ _ (content-unheaded _ _ (header-no _ _ (sym (c .before .header .given .1) ∙ c .before .before .before .header-of .ensures)))
+returns c = shown-no _ _ _ (content-unheaded _ _ (header-no _ _ (sym (c .before .header .given .1) ∙ c .before .before .before .header-of .ensures)))
 
 returns-2 : tie.Need-returns-2
-returns-2 c = let g = header-got _ _ (sym (c .before .before .header2 .given .1) ∙ c .before .before .before .before .header-of .ensures) in tells-as _ _ _ _ (content-headed _ _ (g .0) (g .1)) (c .structured .ensures)
+returns-2 c =
+    let g = header-got _ _ (sym (c .before .before .header2 .given .1) ∙ c .before .before .before .before .header-of .ensures) in
+    c .structured .ensures ∙ ap (shown _) (sym (content-headed _ _ (g .0) (g .1)))
 
 pub content-of-spec : {M : Type 1} → statement M
 content-of-spec =

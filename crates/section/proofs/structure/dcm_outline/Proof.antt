@@ -3,22 +3,24 @@ use native.Mathlib.Omega.{arith}
 use mathlib.Core.Path.{refl}
 use borrow.Author.Needs.{needs}
 use Rattle.rules.specs.Tables.{dcmHead}
+use Rattle.rules.specs.Section.{recordsAt}
 use Rattle.records.proofs.Laws.{bare-short, bare-zeros, bare-here, head-no, head-so}
-use Rattle.section.proofs.Walks.{dcm-no, dcm-area}
+use Rattle.section.specs.Kinds.{outlineOf}
+use Rattle.section.proofs.Walks.{headed-no, headed-so}
 use Rattle.section.proofs.structure.dcm_outline.Statement.{statement}
 use Rattle.section.proofs.structure.dcm_outline.Tie as tie
 
 returns : tie.Need-returns
-unfolding dcmHead
-returns c = dcm-no _ _ (head-no dcmHead _ _ _ (bare-short dcmHead _ _ 0 (omega arith)))
+unfolding outlineOf recordsAt dcmHead
+returns c = headed-no _ _ _ (head-no dcmHead _ _ _ (bare-short dcmHead _ _ 0 (omega arith)))
 
 returns-2 : tie.Need-returns-2
-unfolding dcmHead
-returns-2 c = dcm-area _ (c .dcm-head-of .result) (cc) (head-so dcmHead _ _ (bare-here dcmHead _ _ 0 (omega arith) (cc) refl)) (omega arith)
+unfolding outlineOf recordsAt dcmHead
+returns-2 c = headed-so _ _ _ _ (head-so dcmHead _ _ (c .dcm-head-of .result) (cc) (bare-here dcmHead _ _ 0 (omega arith) (cc) refl))
 
 returns-3 : tie.Need-returns-3
-unfolding dcmHead
-returns-3 c = dcm-no _ _ (head-no dcmHead _ _ _ (bare-zeros dcmHead _ _ 0 (omega arith) (cc)))
+unfolding outlineOf recordsAt dcmHead
+returns-3 c = headed-no _ _ _ (head-no dcmHead _ _ _ (bare-zeros dcmHead _ _ 0 (omega arith) (cc)))
 
 pub dcm-outline-spec : {M : Type 1} → statement M
 dcm-outline-spec =
@@ -29,5 +31,6 @@ dcm-outline-spec =
     (λ c κs. search needs)
     (λ c κs. search needs)
     (λ c κs. search needs)
+    (λ c. search needs)
     returns-2
     returns-3)

@@ -1,21 +1,23 @@
 -- The records of 0xC2 stand right behind the header, those of 0xC4 behind a head.
 use borrow.Author.Needs.{needs}
-use Rattle.rules.specs.declared.Table.the-variants.{Cds, Mms, Vcm, Dcm}
-use Rattle.section.proofs.Walks.{cds-area, mms-area, outlined-as}
+use Rattle.rules.specs.Section.{recordsAt}
+use Rattle.section.specs.Kinds.{outlineOf}
 use Rattle.section.proofs.structure.outline_of.Statement.{statement}
 use Rattle.section.proofs.structure.outline_of.Tie as tie
 
 returns : tie.Need-returns
-returns c = rw (c .byte2 .ensures, c .before .byte .ensures) (outlined-as _ Cds _ _ (c .before .before .enum-told .given .1) (cds-area _ (search needs)))
+unfolding outlineOf recordsAt
+returns c = rw (c .before .before .enum-told .given .1, c .byte2 .ensures, c .before .byte .ensures)
 
 returns-2 : tie.Need-returns-2
-returns-2 c = rw (c .byte4 .ensures, c .before .byte3 .ensures) (outlined-as _ Mms _ _ (c .before .before .enum-told2 .given .1) (mms-area _ (search needs)))
+unfolding outlineOf recordsAt
+returns-2 c = rw (c .before .before .enum-told2 .given .1, c .byte4 .ensures, c .before .byte3 .ensures)
 
 returns-3 : tie.Need-returns-3
-returns-3 c = outlined-as _ Vcm _ _ (c .before .enum-told3 .given .1) (c .vcm-outline .ensures)
+returns-3 c = rw (c .before .enum-told3 .given .1) (c .vcm-outline .ensures)
 
 returns-4 : tie.Need-returns-4
-returns-4 c = outlined-as _ Dcm _ _ (c .before .enum-told4 .given .1) (c .dcm-outline .ensures)
+returns-4 c = rw (c .before .enum-told4 .given .1) (c .dcm-outline .ensures)
 
 pub outline-of-spec : {M : Type 1} → statement M
 outline-of-spec =

@@ -2,7 +2,7 @@
 use borrow.Author.Needs.{needs}
 use Rattle.section.specs.Kinds.{layoutOf}
 use Rattle.section.specs.declared.structure.Kind.the-variants.{Carriers, Modes, Ranges}
-use Rattle.section.proofs.Walks.{step-as}
+use Rattle.section.proofs.Walks.{step-as, any-index}
 use Rattle.section.proofs.structure.step.Statement.{statement}
 use Rattle.section.proofs.structure.step.Tie as tie
 
@@ -16,7 +16,7 @@ returns-2 c = step-as _ Modes (c .before .enum-told2 .given .1) _ _ _ _ (c .mode
 
 returns-3 : tie.Need-returns-3
 unfolding layoutOf
-returns-3 c = step-as _ _ (c .before .before .k .given .1) _ _ _ _ (c .channel-step .ensures)
+returns-3 c = step-as _ _ (c .before .before .k .given .1) _ _ _ _ (any-index _ _ _ _ _ (c .channel-step .ensures))
 
 returns-4 : tie.Need-returns-4
 unfolding layoutOf

@@ -3,22 +3,24 @@ use native.Mathlib.Omega.{arith}
 use mathlib.Core.Path.{refl}
 use borrow.Author.Needs.{needs}
 use Rattle.rules.specs.Tables.{vcmHead}
+use Rattle.rules.specs.Section.{recordsAt}
 use Rattle.records.proofs.Laws.{bare-short, bare-zeros, bare-here, head-no, head-so}
-use Rattle.section.proofs.Walks.{vcm-no, vcm-area}
+use Rattle.section.specs.Kinds.{outlineOf}
+use Rattle.section.proofs.Walks.{headed-no, headed-so}
 use Rattle.section.proofs.structure.vcm_outline.Statement.{statement}
 use Rattle.section.proofs.structure.vcm_outline.Tie as tie
 
 returns : tie.Need-returns
-unfolding vcmHead
-returns c = vcm-no _ _ (head-no vcmHead _ _ _ (bare-short vcmHead _ _ 0 (omega arith)))
+unfolding outlineOf recordsAt vcmHead
+returns c = headed-no _ _ _ (head-no vcmHead _ _ _ (bare-short vcmHead _ _ 0 (omega arith)))
 
 returns-2 : tie.Need-returns-2
-unfolding vcmHead
-returns-2 c = vcm-area _ (c .vcm-head-of .result) (cc) (head-so vcmHead _ _ (bare-here vcmHead _ _ 0 (omega arith) (cc) refl)) (omega arith)
+unfolding outlineOf recordsAt vcmHead
+returns-2 c = headed-so _ _ _ _ (head-so vcmHead _ _ (c .vcm-head-of .result) (cc) (bare-here vcmHead _ _ 0 (omega arith) (cc) refl))
 
 returns-3 : tie.Need-returns-3
-unfolding vcmHead
-returns-3 c = vcm-no _ _ (head-no vcmHead _ _ _ (bare-zeros vcmHead _ _ 0 (omega arith) (cc)))
+unfolding outlineOf recordsAt vcmHead
+returns-3 c = headed-no _ _ _ (head-no vcmHead _ _ _ (bare-zeros vcmHead _ _ 0 (omega arith) (cc)))
 
 pub vcm-outline-spec : {M : Type 1} → statement M
 vcm-outline-spec =
@@ -29,5 +31,6 @@ vcm-outline-spec =
     (λ c κs. search needs)
     (λ c κs. search needs)
     (λ c κs. search needs)
+    (λ c. search needs)
     returns-2
     returns-3)

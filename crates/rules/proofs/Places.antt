@@ -1,0 +1,158 @@
+-- Places: the bytes from a place on, the descriptor that stands at a place, and that whatever is read leaves an end of the
+-- bytes that it was given.
+use Prim.Native.Nat.{ℕ, zero, suc, _+_, _-_, _≤_}
+use native.Mathlib.Omega.{arith}
+use native.Mathlib.Nat.{add-zero, add-assoc}
+use mathlib.Core.Path.{_≡_, refl, sym, ap, subst, _∙_}
+use mathlib.Core.Bool.{Bool, true, false}
+use mathlib.Core.List.{List, [], _∷_}
+use lib.ListN.{length, take, length-drop, drop-of-length-le}
+use lib.Seq.{getD-drop, drop-drop, drop-length}
+use lib.Dec.{leb}
+use borrow.Author.Tests.{leb-true, leb-false}
+use Rattle.rules.specs.Bytes.{Got, refused, got, unless, andThen, giving, byte, from}
+use Rattle.rules.specs.Descriptors.{Descriptor, descriptor, passed, counted}
+use Rattle.rules.specs.Layout.{Layout, bare, entry, after, records, head}
+use Rattle.rules.specs.Tables.{cds, mms, vcmHead, vcm, dcmHead, dcm}
+use Rattle.rules.specs.Section.{Structure, carriers, modes, channels, ranges, structure}
+use Rattle.rules.specs.declared.Table.{Table}
+use Rattle.rules.specs.declared.Table.the-variants.{Cds, Mms, Vcm, Dcm}
+use Rattle.rules.proofs.Taken.{unless-got}
+
+pub from-from : (b : List ℕ) (n m : ℕ) → from (from b n) m ≡ from b (n + m)
+unfolding from
+from-from b n m = drop-drop m n b
+
+pub from-length : (b : List ℕ) (at : ℕ) → length (from b at) ≡ length b - at
+unfolding from
+from-length b at = length-drop at b
+
+pub same-place : (b : List ℕ) (i j : ℕ) → i ≤ length b → j ≤ length b → from b i ≡ from b j → i ≡ j
+same-place b i j h k e = omega (arith, from-length b i, from-length b j, ap length e)
+
+byte-from : (b : List ℕ) (at j : ℕ) → byte j (from b at) ≡ byte (at + j) b
+unfolding byte from
+byte-from b at j = rw getD-drop
+
+-- ---- the descriptor that stands at a place
+
+abbrev pub descAt : List ℕ → ℕ → Descriptor
+descAt b at = record { tag = byte at b; body = take (byte (at + 1) b) (from b (at + 2)) }
+
+abbrev pub behind : List ℕ → ℕ → ℕ
+behind b at = at + 2 + byte (at + 1) b
+
+pub descriptor-at : (b : List ℕ) (at : ℕ) (d : Descriptor) (rest : List ℕ) → descriptor (from b at) ≡ got d rest → (d ≡ descAt b at) × (rest ≡ from b (behind b at)) × (behind b at ≤ length b)
+unfolding descriptor
+descriptor-at b at d rest e =
+    let two = unless-got _ _ _ _ _ e in
+    let fits = unless-got _ _ _ _ _ (two .1) in
+    let one : byte 1 (from b at) ≡ byte (at + 1) b = byte-from b at 1 in
+    let is : d ≡ record { tag = byte 0 (from b at); body = take (byte 1 (from b at)) (from (from b at) 2) } = cc in
+    let left : rest ≡ from (from b at) (2 + byte 1 (from b at)) = cc in (
+      is ∙ rw (byte-from b at 0, one, from-from b at 2, add-zero),
+      left ∙ rw (one, from-from b at (2 + byte (at + 1) b), add-assoc),
+      omega (arith, one, leb-true 2 (length (from b at)) (two .0), leb-true (byte 1 (from b at)) (length (from b at) - 2) (fits .0), from-length b at),
+    )
+
+-- ---- what is left is an end
+
+abbrev Suffix : List ℕ → List ℕ → Type 0
+Suffix rest bs = (n : ℕ) × (rest ≡ from bs n)
+
+suffix-trans : (a b c : List ℕ) → Suffix a b → Suffix b c → Suffix a c
+suffix-trans a b c p q = (q .0 + p .0, p .1 ∙ ap (λ (x : List ℕ). from x (p .0)) (q .1) ∙ from-from c (q .0) (p .0))
+
+-- the place of an end, by its length
+suffix-place : (rest bs : List ℕ) → Suffix rest bs → from bs (length bs - length rest) ≡ rest
+unfolding from
+suffix-place rest bs (n, e) = go (leb n (length bs)) refl
+  where
+    go : (x : Bool) → leb n (length bs) ≡ x → from bs (length bs - length rest) ≡ rest
+    go true q =
+        let k : length bs - length rest ≡ n = omega (arith, leb-true n (length bs) q, ap length e, length-drop n bs) in
+        rw k (sym e)
+    go false q =
+        let z : rest ≡ [] = e ∙ drop-of-length-le bs {i = n} (omega (arith, leb-false n (length bs) q)) in
+        let k : length bs - length rest ≡ length bs = omega (arith, ap length z) in
+        rw k (drop-length bs ∙ sym z)
+
+abbrev Ends : {A : Type 0} → Got A → List ℕ → Type 0
+Ends (refused n) bs = Unit
+Ends (got a rest) bs = Suffix rest bs
+
+module _ {A : Type 0} (bs : List ℕ) where
+  ends-unless : (t : Bool) (n : ℕ) (g : Got A) → Ends g bs → Ends (unless t n g) bs
+  unfolding unless
+  ends-unless true n g h = h
+  ends-unless false n g h = tt
+
+  ends-from : (n : ℕ) (g : Got A) → Ends g (from bs n) → Ends g bs
+  ends-from n (refused m) h = tt
+  ends-from n (got a rest) h = suffix-trans rest (from bs n) bs h (n, refl)
+
+  ends-then : {B : Type 0} (g : Got B) (f : B → List ℕ → Got A) → Ends g bs → ((x : B) (l : List ℕ) → Ends (f x l) l) → Ends (andThen g f) bs
+  unfolding andThen
+  ends-then (refused n) f h k = tt
+  ends-then (got x l) f h k = go (f x l) (k x l)
+    where
+      go : (r : Got A) → Ends r l → Ends r bs
+      go (refused n) q = tt
+      go (got a rest) q = suffix-trans rest l bs q h
+
+  ends-giving : {B : Type 0} (f : B → A) (g : Got B) → Ends g bs → Ends (giving f g) bs
+  unfolding giving
+  ends-giving f (refused n) h = tt
+  ends-giving f (got x l) h = h
+
+ends-descriptor : (bs : List ℕ) → Ends (descriptor bs) bs
+unfolding descriptor
+ends-descriptor bs = ends-unless bs _ 8 _ (ends-unless bs _ 8 _ (2 + byte 1 bs, refl))
+
+ends-passed : (n : ℕ) (bs : List ℕ) → Ends (passed n bs) bs
+unfolding passed from
+ends-passed zero bs = (0, refl)
+ends-passed (suc n) bs = ends-then bs (descriptor bs) (λ d rest. passed n rest) (ends-descriptor bs) (λ d rest. ends-passed n rest)
+
+ends-counted : (d : Bool) (bs : List ℕ) → Ends (counted d bs) bs
+unfolding counted from
+ends-counted false bs = (0, refl)
+ends-counted true bs = ends-unless bs _ 8 _ (ends-from bs 1 (passed (byte 0 bs) (from bs 1)) (ends-passed (byte 0 bs) (from bs 1)))
+
+module _ {R : Type 0} (l : Layout R) where
+  ends-bare : (index : ℕ) (bs : List ℕ) → Ends (bare l index bs) bs
+  unfolding bare
+  ends-bare index bs = ends-unless bs _ 8 _ (ends-unless bs _ 9 _ (ends-unless bs _ 10 _ (l .size, refl)))
+
+  ends-records : (n index : ℕ) (bs : List ℕ) → Ends (records l n index bs) bs
+  unfolding records entry from
+  ends-records zero index bs = (0, refl)
+  ends-records (suc n) index bs =
+      ends-then bs (entry l index bs) (λ r rest. giving (λ rs. r ∷ rs) (records l n (after l r) rest))
+      (ends-then bs (bare l index bs) (λ r rest. giving (λ x. r) (counted (l .described) rest)) (ends-bare index bs) (λ r rest. ends-giving rest (λ x. r) (counted (l .described) rest) (ends-counted (l .described) rest)))
+      (λ r rest. ends-giving rest (λ rs. r ∷ rs) (records l n (after l r) rest) (ends-records n (after l r) rest))
+
+  -- behind the header
+  ends-behind : (n index : ℕ) (bs : List ℕ) → Ends (records l n index (from bs 7)) bs
+  ends-behind n index bs = ends-from bs 7 (records l n index (from bs 7)) (ends-records n index (from bs 7))
+
+  ends-head : (bs : List ℕ) → Ends (head l (from bs 7)) bs
+  unfolding head
+  ends-head bs = ends-giving bs (λ h. h .what) (bare l 0 (from bs 7)) (ends-from bs 7 (bare l 0 (from bs 7)) (ends-bare 0 (from bs 7)))
+
+ends-structure : (t : Table) (bs : List ℕ) → Ends (structure t bs) bs
+unfolding structure
+ends-structure Cds bs = ends-giving bs (carriers (byte 4 bs)) (records cds (byte 5 bs) (byte 4 bs) (from bs 7)) (ends-behind cds (byte 5 bs) (byte 4 bs) bs)
+ends-structure Mms bs = ends-giving bs (modes (byte 4 bs)) (records mms (byte 5 bs) (byte 4 bs) (from bs 7)) (ends-behind mms (byte 5 bs) (byte 4 bs) bs)
+ends-structure Vcm bs =
+    ends-then bs (head vcmHead (from bs 7)) (λ h rest. giving (channels h) (records (vcm (h .included)) (h .count) 0 rest))
+    (ends-head vcmHead bs)
+    (λ h rest. ends-giving rest (channels h) (records (vcm (h .included)) (h .count) 0 rest) (ends-records (vcm (h .included)) (h .count) 0 rest))
+ends-structure Dcm bs =
+    ends-then bs (head dcmHead (from bs 7)) (λ h rest. giving (ranges h) (records dcm (h .length) (h .first) rest))
+    (ends-head dcmHead bs)
+    (λ h rest. ends-giving rest (ranges h) (records dcm (h .length) (h .first) rest) (ends-records dcm (h .length) (h .first) rest))
+
+-- what a structure leaves stands at the place that its length says
+pub structure-place : (t : Table) (bs : List ℕ) (x : Structure) (tail : List ℕ) → structure t bs ≡ got x tail → from bs (length bs - length tail) ≡ tail
+structure-place t bs x tail e = suffix-place tail bs (subst (λ (g : Got Structure). Ends g bs) e (ends-structure t bs))
