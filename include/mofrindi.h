@@ -19,13 +19,13 @@
 extern "C" {
 #endif
 
-/* Answers 0 if the section reads right, else the number of the first refusal that holds, in this order:
+/* Answers 0 if the section reads right, else the number of a refusal, 3 to 11: the first that holds, in this order.
  *
  *    3  fewer than 8 bytes, or length is not 3 + L, or L (the section length field) is above 1,021
  *    4  the table number is not 0xC2 or 0xC4
  *    5  the CRC is wrong
  *    6  the protocol version is not 0
- *    7  the medium is not 0, or the subtype is none of the four tables'
+ *    7  the medium is not 0, or the subtype is none of the four tables' (8 where the section ends before that byte)
  *  then front to back, each part taken whole, 8 before 9 before 10:
  *    8  a field, record or descriptor runs into the CRC
  *    9  a bit that must be zero is 1
@@ -35,7 +35,7 @@ extern "C" {
  *   11  the revision descriptor is absent, there twice, shorter than 3 bytes, or its number is above its last number
  *
  * section  the first byte; at least length bytes must be readable there. It may be null only if length is 0.
- * length   how many bytes there are; any number is good, and more than 1,024 are refused.
+ * length   how many bytes there are; any number is allowed, and more than 1,024 are refused.
  */
 uint32_t mofrindi_check_section(const uint8_t *section, size_t length);
 

@@ -15,7 +15,12 @@ int main(void) {
             fprintf(stderr, "answers: a section is longer than 1,048,576 bytes or cut short\n");
             return 1;
         }
-        putchar((int)mofrindi_check_section(section, length));
+        uint32_t answer = mofrindi_check_section(section, length);
+        if (answer > 255) {
+            fprintf(stderr, "answers: an answer is above 255\n");
+            return 1;
+        }
+        putchar((int)answer);
     }
     if (got != 0) {
         fprintf(stderr, "answers: the input ends inside a length\n");

@@ -24,6 +24,8 @@ def main():
         names = exported(sys.argv[1])
     except OSError as error:
         sys.exit('exports.py: %s: %s' % (sys.argv[1], error.strerror))
+    except ValueError:
+        sys.exit('exports.py: the index of %s cannot be read' % sys.argv[1])
     if names != sorted(sys.argv[2:]):
         sys.exit('exports.py: %s exports %s' % (sys.argv[1], ', '.join(names) or 'nothing'))
 

@@ -1,6 +1,6 @@
 """Mofrindi: compares a program's answers on sections with section.py's.
 
-compare.py PROGRAM [--seed N] [--count N]
+compare.py PROGRAM [--seed N] [--count N] [--parse]
 
 PROGRAM gets all sections on its standard input, each as a 4-byte little-endian
 length and then its bytes, and writes one byte for each section: 0 if it reads
@@ -143,11 +143,9 @@ class Parser(argparse.ArgumentParser):
 
 def number_from(least):
     def number(text):
-        value = int(text)
-        if value < least:
-            raise ValueError(text)
-        return value
-    number.__name__ = 'number of at least %d' % least
+        if not text.isdigit() or int(text) < least:
+            raise argparse.ArgumentTypeError('%r is no number of at least %d' % (text, least))
+        return int(text)
     return number
 
 
@@ -164,11 +162,15 @@ def arguments():
     parser.add_argument('--count', metavar='N', type=number_from(1), default=30000,
                         help='sections in total, at least (default 30000); the sweeps and '
                              'clauses are always all there, and a third of N random ones')
+    parser.add_argument('--parse', action='store_true',
+                        help='only say whether the arguments are right')
     return parser.parse_args()
 
 
 def main():
     given = arguments()
+    if given.parse:
+        return 0
     try:
         return 1 if compare(given.program, given.seed, given.count) else 0
     except Failure as failure:

@@ -171,11 +171,11 @@ def valid(dice, table):
 
 # ------------------------------------------------------------------- growth
 
-def grow_list(dice, draft, limit=WHOLE):
+def grow_list(dice, draft):
     """An unknown descriptor into a record's list (condition 3)."""
     counts = [i for i in draft.places('count') if draft.parts[i].data[0] < 255]
     extra = any_descriptor(dice, False)
-    if not counts or draft.size() + len(extra) > limit:
+    if not counts or draft.size() + len(extra) > WHOLE:
         return
     at = dice.one(counts)
     behind = 1 + dice.below(draft.parts[at].data[0] + 1)
@@ -183,25 +183,25 @@ def grow_list(dice, draft, limit=WHOLE):
     draft.parts[at].data[0] += 1
 
 
-def grow_closing(dice, draft, limit=WHOLE):
+def grow_closing(dice, draft):
     extra = any_descriptor(dice, True)
-    if draft.size() + len(extra) > limit:
+    if draft.size() + len(extra) > WHOLE:
         return
     at = dice.one(draft.places('closing', 'revision')) + dice.below(2)
     draft.parts.insert(at, Part('closing', extra))
 
 
-def grow_revision(dice, draft, limit=WHOLE):
+def grow_revision(dice, draft):
     """More bytes at the end of the revision's body."""
     body = draft.data('revision')
     extra = dice.bytes(dice.between(1, 6))
-    if draft.size() + len(extra) > limit or body[1] + len(extra) > 255:
+    if draft.size() + len(extra) > WHOLE or body[1] + len(extra) > 255:
         return
     body.extend(extra)
     body[1] += len(extra)
 
 
-def grow_reserved(dice, draft, limit=WHOLE):
+def grow_reserved(dice, draft):
     draft.top = draft.top & 0xC0 | dice.below(4) << 4
     body = draft.data('revision')
     body[2] = body[2] & 0x1F | dice.below(8) << 5

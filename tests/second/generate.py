@@ -9,7 +9,7 @@ import sys
 sys.dont_write_bytecode = True
 
 from drafts import break_anything, grow, make, valid
-from limits import CLAUSES, from_clauses    # CLAUSES for compare.py
+from clauses_9_to_11 import CLAUSES, from_clauses    # CLAUSES for compare.py
 from pieces import NUMBERS, REV, SUBTYPE, TABLES, Dice, Item, seal, two
 from section import DCM, VCM
 from sweeps import sweeps

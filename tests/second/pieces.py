@@ -72,8 +72,8 @@ def descriptor(tag, body):
     return bytes([tag, len(body)]) + bytes(body)
 
 
-def revision(version, number, last, more=b'', reserved=7):
-    return descriptor(REVISION, bytes([reserved << 5 | version, number, last]) + more)
+def revision(version, number, last):
+    return descriptor(REVISION, bytes([0xE0 | version, number, last]))
 
 
 def two(value):

@@ -113,7 +113,7 @@ pub record Content : Type 0 where
   pub closing : List Descriptor
   pub revision : Revision
 
--- of the section without its CRC: the header, the structure, the closing list; "11 is judged last"
+-- of the section without its CRC, once its table is known: the structure, the closing list; "11 is judged last"
 unfoldable pub contentOf : Table → List ℕ → Got Content
 contentOf t bs =
     andThen (structure t bs) (λ x tail.
@@ -122,6 +122,7 @@ contentOf t bs =
     (λ r. record { table = t; map = mapOf bs; structure = x; closing = ds; revision = r })
     (revision (bodies revisionTag ds))))
 
+-- the header, and then the rest
 unfoldable pub content : List ℕ → Got Content
 content bs = andThen (header bs) (λ t rest. contentOf t bs)
 

@@ -1,8 +1,6 @@
-#ifndef KIT_STRING_H
-#define KIT_STRING_H
+#ifndef STAND_IN_STRING_H
+#define STAND_IN_STRING_H
 #include <stddef.h>
 void *memcpy(void *, const void *, size_t);
-void *memset(void *, int, size_t);
 int memcmp(const void *, const void *, size_t);
-size_t strlen(const char *);
 #endif

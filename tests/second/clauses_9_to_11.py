@@ -3,9 +3,10 @@
 CLAUSES is whole once this file is read: take it, and from_clauses(), from here.
 """
 
-from clauses import (ALL, BODIES, CLAUSES, RECORDS, channel, count_one_more,
-                     in_one, last_index_is, not_there, on, put, ranges_end_at,
-                     revision_wrong, second_at_256)
+from clauses_0_to_8 import (ALL, BODIES, CLAUSES, RECORDS, channel,
+                            count_one_more, in_one, last_index_is, not_there,
+                            on, put, ranges_end_at, revision_wrong,
+                            second_at_256)
 from drafts import (Part, break_revision, hurt_mode, hurt_value, hurt_zero,
                     runs_in, start_index)
 from pieces import Item, descriptor, two

@@ -1,7 +1,7 @@
-#ifndef KIT_STDIO_H
-#define KIT_STDIO_H
+#ifndef STAND_IN_STDIO_H
+#define STAND_IN_STDIO_H
 #include <stddef.h>
-typedef struct kit_file FILE;
+typedef struct stand_in_file FILE;
 extern FILE *stdin, *stdout, *stderr;
 int printf(const char *, ...) __attribute__((format(printf, 1, 2)));
 int fprintf(FILE *, const char *, ...) __attribute__((format(printf, 2, 3)));

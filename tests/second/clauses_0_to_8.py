@@ -1,7 +1,7 @@
 """Mofrindi: sections that reach a named clause of document 01: 0 and 3 to 8.
 
 A clause makes sections that must get its answer, most of them by edits of a
-right draft.  Those of 9 to 11 are in limits.py.
+right draft.  Those of 9 to 11 are in clauses_9_to_11.py.
 """
 
 import zlib
