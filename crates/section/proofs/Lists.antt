@@ -13,14 +13,14 @@ use Rattle.rules.specs.Section.{revisionTag, revision, firstOf}
 use Rattle.rules.specs.declared.Revision.{Revision}
 use Rattle.rules.specs.declared.Asked.the-variants as asked
 use Rattle.rules.proofs.Closing.{closing-end, closing-got, closing-no}
-use Rattle.records.specs.Place.{Stands}
+use Rattle.fields.specs.Place.{Stands}
 use Rattle.section.specs.Closes.{closedOf, seenOf, seenWith, listed, firstIn}
-use Rattle.records.specs.declared.Skip.{Skip}
-use Rattle.records.specs.declared.Skip.the-variants.{At}
+use Rattle.fields.specs.declared.Skip.{Skip}
+use Rattle.fields.specs.declared.Skip.the-variants.{At}
 use Rattle.section.specs.declared.closing.Seen.{Seen}
 use Rattle.section.specs.declared.closing.Seen.the-variants.{Nothing, Once, Again}
 use Rattle.rules.proofs.Places.{from-length, same-place, descAt, behind, descriptor-at}
-use Rattle.records.proofs.Laws.{at-in, at-got}
+use Rattle.fields.proofs.Laws.{at-in, at-got}
 
 -- a whole descriptor stands between two places
 pub record Here (b : List ℕ) (at i : ℕ) : Type 0 where

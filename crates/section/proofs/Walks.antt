@@ -18,8 +18,8 @@ use Rattle.rules.specs.declared.VcmHead.{VcmHead}
 use Rattle.rules.specs.declared.DcmHead.{DcmHead}
 use Rattle.rules.proofs.Taken.{giving-got, bare-got, records-count}
 use Rattle.rules.proofs.Places.{from-from, from-length}
-use Rattle.records.specs.Place.{leftOf, Stands}
-use Rattle.records.specs.declared.Skip.{Skip}
+use Rattle.fields.specs.Place.{leftOf, Stands}
+use Rattle.fields.specs.declared.Skip.{Skip}
 use Rattle.section.specs.Kinds.{RecordOf, layoutOf, headed, outlineOf}
 use Rattle.section.specs.declared.structure.Outline.{Outline}
 use Rattle.section.specs.declared.structure.Outline.the-variants as outline

@@ -6,9 +6,7 @@ ghost use Rattle.rules.specs.Bytes.{from};
 ghost use Rattle.rules.specs.Descriptors.{closing};
 ghost use Rattle.rules.specs.Section.{revision};
 ghost use Rattle.section.specs.Closes.{closedAs, closedOf, seenOf, seenWith, listed, firstIn};
-use records::Skip;
-use records::bytes;
-use records::descriptors;
+use fields::Skip;
 use rules::Asked;
 use rules::Revision;
 
@@ -42,9 +40,9 @@ fn revised(body: &[u8]) -> Closed
     if body.len() < 3 {
         return Closed::Refused(11);
     }
-    let version = bytes::byte(body, 0) % 32;
-    let number = bytes::byte(body, 1);
-    let last = bytes::byte(body, 2);
+    let version = fields::byte(body, 0) % 32;
+    let number = fields::byte(body, 1);
+    let last = fields::byte(body, 2);
     if last < number {
         return Closed::Refused(11);
     }
@@ -60,7 +58,7 @@ fn judged(b: &[u8], seen: Seen) -> Closed
 {
     match seen {
         Seen::Nothing => Closed::Refused(11),
-        Seen::Once { start, size } => revised(bytes::part(b, start, size)),
+        Seen::Once { start, size } => revised(fields::part(b, start, size)),
         Seen::Again => Closed::Refused(11),
     }
 }
@@ -72,11 +70,11 @@ pub fn close(b: &[u8], start: usize) -> Closed
     let mut at = start;
     let mut seen = Seen::Nothing;
     while at < b.len() {
-        let next = descriptors::past_one(b, at);
+        let next = fields::past_one(b, at);
         match next {
             Skip::At(i) => {
                 if b[at] == 0x93 {
-                    seen = seen_with(seen, at + 2, bytes::byte(b, at + 1) as usize);
+                    seen = seen_with(seen, at + 2, fields::byte(b, at + 1) as usize);
                 }
                 at = i;
             }
@@ -95,13 +93,13 @@ pub fn first_of(b: &[u8], start: usize, tag: u8) -> Asked
 {
     let mut at = start;
     while at < b.len() {
-        let next = descriptors::past_one(b, at);
+        let next = fields::past_one(b, at);
         match next {
             Skip::At(i) => {
                 if b[at] == tag {
                     return Asked::There {
                         start: at + 2,
-                        size: bytes::byte(b, at + 1) as usize,
+                        size: fields::byte(b, at + 1) as usize,
                     };
                 }
                 at = i;

@@ -3,7 +3,6 @@ ghost use mathlib.Core.Path.{_≡_};
 ghost use Rattle.rules.specs.Section.{mediumAt, named, headerWhole, mapOf};
 ghost use Rattle.rules.specs.Section as rule;
 ghost use Rattle.section.specs.Reads.{namedAs, headerAs};
-use records::bytes;
 use rules::Table;
 
 // The table that a header names, or its refusal.
@@ -43,9 +42,9 @@ fn table_named(number: u8, medium: u8) -> Named
 fn header_whole(t: Table, b: &[u8]) -> Header
     ensures { λ r. ⌜ r ≡ headerAs (headerWhole t (now (b .entry))) ⌝ }
 {
-    let number = bytes::byte(b, 0);
-    let high = bytes::byte(b, 1);
-    let protocol = bytes::byte(b, 3);
+    let number = fields::byte(b, 0);
+    let high = fields::byte(b, 1);
+    let protocol = fields::byte(b, 3);
     if b.len() < 7 {
         return Header::Refused(8);
     }
@@ -58,7 +57,7 @@ fn header_whole(t: Table, b: &[u8]) -> Header
     if number == 0xC4 {
         return Header::Names(t);
     }
-    if bytes::byte(b, 4) < 1 {
+    if fields::byte(b, 4) < 1 {
         return Header::Refused(10);
     }
     Header::Names(t)
@@ -67,7 +66,7 @@ fn header_whole(t: Table, b: &[u8]) -> Header
 fn medium_at(b: &[u8]) -> usize
     ensures { λ r. ⌜ r ≡ mediumAt (now (b .entry)) ⌝ }
 {
-    if bytes::byte(b, 0) == 0xC2 {
+    if fields::byte(b, 0) == 0xC2 {
         return 6;
     }
     4
@@ -81,7 +80,7 @@ pub fn header_of(b: &[u8]) -> Header
     if b.len() <= at {
         return Header::Refused(8);
     }
-    let name = table_named(bytes::byte(b, 0), bytes::byte(b, at));
+    let name = table_named(fields::byte(b, 0), fields::byte(b, at));
     match name {
         Named::Nothing => Header::Refused(7),
         Named::Table(t) => header_whole(t, b),
@@ -92,9 +91,9 @@ pub fn header_of(b: &[u8]) -> Header
 pub fn map_of(b: &[u8]) -> u16
     ensures { λ r. ⌜ r ≡ mapOf (now (b .entry)) ⌝ }
 {
-    let number = bytes::byte(b, 0);
-    let high = bytes::byte(b, 5);
-    let low = bytes::byte(b, 6);
+    let number = fields::byte(b, 0);
+    let high = fields::byte(b, 5);
+    let low = fields::byte(b, 6);
     if number == 0xC4 {
         return high as u16 * 256 + low as u16;
     }

@@ -7,9 +7,8 @@ ghost use lib.ListN.{length};
 ghost use Rattle.rules.specs.Section.{fitting, lengthOf, contentOf, content, readSection, readAs, ask, partOf};
 ghost use Rattle.section.specs.Reads.{shown};
 use closing::Closed;
+use fields::Skip;
 use header::Header;
-use records::Skip;
-use records::bytes;
 use rules::Asked;
 use rules::Read;
 use rules::SectionHead;
@@ -24,8 +23,8 @@ mod closing; // the closing list
 fn length_of(s: &[u8]) -> u16
     ensures { λ r. ⌜ r ≡ lengthOf (now (s .entry)) ⌝ }
 {
-    let high = bytes::byte(s, 1);
-    let low = bytes::byte(s, 2);
+    let high = fields::byte(s, 1);
+    let low = fields::byte(s, 2);
     (high % 16) as u16 * 256 + low as u16
 }
 
@@ -103,11 +102,11 @@ pub fn read_section(section: &[u8]) -> Read
     ensures { λ r. ⌜ r ≡ readAs (now (section .entry)) (readSection (now (section .entry))) ⌝ }
 {
     if is_fitting(section) {
-        if is_table_number(bytes::byte(section, 0)) {
+        if is_table_number(fields::byte(section, 0)) {
             if crc::crc(section) != 0 {
                 return Read::Refused(5);
             }
-            if bytes::byte(section, 3) % 32 != 0 {
+            if fields::byte(section, 3) % 32 != 0 {
                 return Read::Refused(6);
             }
             return content_of(&section[..section.len() - 4]);
@@ -137,6 +136,6 @@ pub fn find_descriptor(section: &[u8], tag: u8) -> &[u8]
     match asked {
         Asked::Refused(_) => &section[..0],
         Asked::Absent => &section[..0],
-        Asked::There { start, size } => bytes::part(section, start, size),
+        Asked::There { start, size } => fields::part(section, start, size),
     }
 }

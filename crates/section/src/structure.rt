@@ -4,15 +4,10 @@ ghost use Prim.Native.Nat.{_≤_};
 ghost use lib.ListN.{length, take};
 ghost use Rattle.rules.specs.Bytes.{from};
 ghost use Rattle.rules.specs.Layout.{entry, records};
-ghost use Rattle.records.specs.Place.{Stands};
+ghost use Rattle.fields.specs.Place.{Stands};
 ghost use Rattle.section.specs.Kinds.{layoutOf, outlineOf};
 ghost use Rattle.rules.specs.declared.Table.the-variants as table;
-use records::Skip;
-use records::bytes;
-use records::carriers;
-use records::channels;
-use records::modes;
-use records::ranges;
+use fields::Skip;
 use rules::Table;
 
 // The layouts of records; of a channel record, with descriptors-included.
@@ -38,10 +33,10 @@ fn step(k: Kind, b: &[u8], at: usize, index: u16) -> Skip
     ensures { λ r. ⌜ Stands (now (b .entry)) r (entry (layoutOf k) index (from (now (b .entry)) at)) ⌝ }
 {
     match k {
-        Kind::Carriers => carriers::carriers_step(b, at, index),
-        Kind::Modes => modes::mode_step(b, at, index),
-        Kind::Channels(included) => channels::channel_step(b, at, included),
-        Kind::Ranges => ranges::range_step(b, at, index),
+        Kind::Carriers => cds::carriers_step(b, at, index),
+        Kind::Modes => mms::mode_step(b, at, index),
+        Kind::Channels(included) => vcm::channel_step(b, at, included),
+        Kind::Ranges => dcm::range_step(b, at, index),
     }
 }
 
@@ -51,13 +46,13 @@ fn takes(k: Kind, b: &[u8], at: usize) -> u8
 {
     match k {
         Kind::Carriers => {
-            let c = carriers::carriers_of(bytes::part(b, at, carriers::SIZE));
+            let c = cds::carriers_of(fields::part(b, at, cds::SIZE));
             c.count
         }
         Kind::Modes => 1,
         Kind::Channels(_) => 0,
         Kind::Ranges => {
-            let r = ranges::range_of(bytes::part(b, at, ranges::SIZE));
+            let r = dcm::range_of(fields::part(b, at, dcm::SIZE));
             r.count
         }
     }
@@ -91,15 +86,15 @@ pub fn past_records(k: Kind, b: &[u8], start: usize, first: u16, count: u8) -> S
 fn vcm_outline(b: &[u8]) -> Outline
     ensures { λ r. ⌜ r ≡ outlineOf table.Vcm (now (b .entry)) ⌝ }
 {
-    if bytes::room(b, 7) < channels::HEAD {
+    if fields::room(b, 7) < vcm::HEAD {
         return Outline::Refused(8);
     }
-    let r = bytes::part(b, 7, channels::HEAD);
-    if channels::vcm_head_zeros(r) {
-        let h = channels::vcm_head_of(r);
+    let r = fields::part(b, 7, vcm::HEAD);
+    if vcm::head_zeros(r) {
+        let h = vcm::head_of(r);
         return Outline::Records {
             kind: Kind::Channels(h.included),
-            start: 7 + channels::HEAD,
+            start: 7 + vcm::HEAD,
             first: 0,
             count: h.count,
         };
@@ -110,15 +105,15 @@ fn vcm_outline(b: &[u8]) -> Outline
 fn dcm_outline(b: &[u8]) -> Outline
     ensures { λ r. ⌜ r ≡ outlineOf table.Dcm (now (b .entry)) ⌝ }
 {
-    if bytes::room(b, 7) < ranges::HEAD {
+    if fields::room(b, 7) < dcm::HEAD {
         return Outline::Refused(8);
     }
-    let r = bytes::part(b, 7, ranges::HEAD);
-    if ranges::dcm_head_zeros(r) {
-        let h = ranges::dcm_head_of(r);
+    let r = fields::part(b, 7, dcm::HEAD);
+    if dcm::head_zeros(r) {
+        let h = dcm::head_of(r);
         return Outline::Records {
             kind: Kind::Ranges,
-            start: 7 + ranges::HEAD,
+            start: 7 + dcm::HEAD,
             first: h.first,
             count: h.length,
         };
@@ -134,14 +129,14 @@ pub fn outline_of(t: Table, b: &[u8]) -> Outline
         Table::Cds => Outline::Records {
             kind: Kind::Carriers,
             start: 7,
-            first: bytes::byte(b, 4) as u16,
-            count: bytes::byte(b, 5),
+            first: fields::byte(b, 4) as u16,
+            count: fields::byte(b, 5),
         },
         Table::Mms => Outline::Records {
             kind: Kind::Modes,
             start: 7,
-            first: bytes::byte(b, 4) as u16,
-            count: bytes::byte(b, 5),
+            first: fields::byte(b, 4) as u16,
+            count: fields::byte(b, 5),
         },
         Table::Vcm => vcm_outline(b),
         Table::Dcm => dcm_outline(b),

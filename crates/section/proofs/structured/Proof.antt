@@ -2,7 +2,7 @@
 use native.Mathlib.Omega.{arith}
 use mathlib.Core.Path.{sym, _∙_}
 use borrow.Author.Needs.{needs}
-use Rattle.records.proofs.Laws.{at-in, at-got, at-no}
+use Rattle.fields.proofs.Laws.{at-in, at-got, at-no}
 use Rattle.section.proofs.Walks.{outlined-no, outlined-area, area-no, area-so}
 use Rattle.section.proofs.Whole.{shown-no, content-no, content-unclosed, content-so}
 use Rattle.section.proofs.structured.Statement.{statement}

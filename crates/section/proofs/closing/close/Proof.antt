@@ -6,7 +6,7 @@ use lib.ListN.{length}
 use borrow.Author.Needs.{needs}
 use Rattle.rules.specs.Bytes.{byte, from}
 use Rattle.section.specs.Closes.{closedAs, closedOf}
-use Rattle.records.proofs.Laws.{at-no}
+use Rattle.fields.proofs.Laws.{at-no}
 use Rattle.section.proofs.Lists.{here, closedWith, close-begin, close-end, close-no, close-pass, close-seen}
 use Rattle.section.proofs.closing.close.Statement.{statement}
 use Rattle.section.proofs.closing.close.Tie as tie

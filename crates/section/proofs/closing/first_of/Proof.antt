@@ -8,7 +8,7 @@ use borrow.Author.Needs.{needs}
 use Rattle.rules.specs.Bytes.{byte, from}
 use Rattle.rules.specs.Descriptors.{closing}
 use Rattle.section.specs.Closes.{listed, firstIn}
-use Rattle.records.proofs.Laws.{at-no}
+use Rattle.fields.proofs.Laws.{at-no}
 use Rattle.section.proofs.Lists.{here, first-end, first-never, first-here, first-pass, listed-on}
 use Rattle.section.proofs.closing.first_of.Statement.{statement}
 use Rattle.section.proofs.closing.first_of.Tie as tie

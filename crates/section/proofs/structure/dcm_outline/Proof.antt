@@ -4,7 +4,7 @@ use mathlib.Core.Path.{refl}
 use borrow.Author.Needs.{needs}
 use Rattle.rules.specs.Tables.{dcmHead}
 use Rattle.rules.specs.Section.{recordsAt}
-use Rattle.records.proofs.Laws.{bare-short, bare-zeros, bare-here, head-no, head-so}
+use Rattle.fields.proofs.Laws.{bare-short, bare-zeros, bare-here, head-no, head-so}
 use Rattle.section.specs.Kinds.{outlineOf}
 use Rattle.section.proofs.Walks.{headed-no, headed-so}
 use Rattle.section.proofs.structure.dcm_outline.Statement.{statement}
@@ -16,7 +16,7 @@ returns c = headed-no _ _ _ (head-no dcmHead _ _ _ (bare-short dcmHead _ _ 0 (om
 
 returns-2 : tie.Need-returns-2
 unfolding outlineOf recordsAt dcmHead
-returns-2 c = headed-so _ _ _ _ (head-so dcmHead _ _ (c .dcm-head-of .result) (cc) (bare-here dcmHead _ _ 0 (omega arith) (cc) refl))
+returns-2 c = headed-so _ _ _ _ (head-so dcmHead _ _ (c .head-of .result) (cc) (bare-here dcmHead _ _ 0 (omega arith) (cc) refl))
 
 returns-3 : tie.Need-returns-3
 unfolding outlineOf recordsAt dcmHead

@@ -6,9 +6,9 @@ use lib.ListN.{length}
 use borrow.Author.Needs.{needs}
 use Rattle.rules.specs.Bytes.{from}
 use Rattle.rules.specs.Layout.{records}
-use Rattle.records.specs.Place.{leftOf}
+use Rattle.fields.specs.Place.{leftOf}
 use Rattle.section.specs.Kinds.{layoutOf}
-use Rattle.records.proofs.Laws.{at-in, turn, turn-fair, stop}
+use Rattle.fields.proofs.Laws.{at-in, turn, turn-fair, stop}
 use Rattle.section.proofs.Walks.{top}
 use Rattle.section.proofs.structure.past_records.Statement.{statement}
 use Rattle.section.proofs.structure.past_records.Tie as tie

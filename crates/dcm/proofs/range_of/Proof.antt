@@ -1,0 +1,12 @@
+-- Field by field the bits that the rule names.
+use borrow.Author.Needs.{needs}
+use Rattle.rules.specs.Tables.{rangeOf}
+use Rattle.dcm.proofs.range_of.Statement.{statement}
+use Rattle.dcm.proofs.range_of.Tie as tie
+
+returns : tie.Need-returns
+unfolding rangeOf
+returns c = cc
+
+pub range-of-spec : {M : Type 1} → statement M
+range-of-spec = tie.close (tie.spec (λ c κs. search needs) returns)

@@ -1,0 +1,71 @@
+// The defined channels map, DCM: its head and its range byte. b is a section without its CRC.
+ghost use mathlib.Core.Path.{_≡_};
+ghost use Rattle.rules.specs.Bytes.{from};
+ghost use Rattle.rules.specs.Layout.{entry};
+ghost use Rattle.rules.specs.Tables.{dcmHeadZeros, dcmHeadOf, rangeOf, rangeFair, dcm};
+ghost use Rattle.fields.specs.Place.{Stands};
+use fields::Skip;
+use rules::DcmHead;
+use rules::Range;
+
+// Bytes of the head, and of a range.
+pub const HEAD: usize = 3;
+
+pub const SIZE: usize = 1;
+
+pub fn head_zeros(r: &[u8]) -> bool
+    ensures { λ x. ⌜ x ≡ dcmHeadZeros (now (r .entry)) ⌝ }
+{
+    let first = fields::byte(r, 0);
+    let length = fields::byte(r, 2);
+    if first / 16 != 0 {
+        return false;
+    }
+    length / 128 == 0
+}
+
+// What the head with these bytes says.
+pub fn head_of(r: &[u8]) -> DcmHead
+    ensures { λ x. ⌜ x ≡ dcmHeadOf (now (r .entry)) ⌝ }
+{
+    let first = fields::byte(r, 0);
+    let first_low = fields::byte(r, 1);
+    let length = fields::byte(r, 2);
+    DcmHead {
+        first: (first % 16) as u16 * 256 + first_low as u16,
+        length: length % 128,
+    }
+}
+
+// What the range byte says.
+pub fn range_of(r: &[u8]) -> Range
+    ensures { λ x. ⌜ x ≡ rangeOf (now (r .entry)) ⌝ }
+{
+    let range = fields::byte(r, 0);
+    Range {
+        defined: range / 128,
+        count: range % 128,
+    }
+}
+
+fn range_fair(first: u16, r: Range) -> bool
+    ensures { λ x. ⌜ x ≡ rangeFair first r ⌝ }
+{
+    if r.count < 1 {
+        return false;
+    }
+    first as u32 + r.count as u32 <= 4096
+}
+
+// The place behind the range byte at a place, whose first channel is given; or 8, 10.
+pub fn range_step(b: &[u8], at: usize, first: u16) -> Skip
+    ensures { λ r. ⌜ Stands (now (b .entry)) r (entry dcm first (from (now (b .entry)) at)) ⌝ }
+{
+    if fields::room(b, at) < SIZE {
+        return Skip::Refused(8);
+    }
+    if range_fair(first, range_of(fields::part(b, at, SIZE))) {
+        return Skip::At(at + SIZE);
+    }
+    Skip::Refused(10)
+}

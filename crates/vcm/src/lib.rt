@@ -1,0 +1,155 @@
+// The virtual channel map, VCM: its head and its channel record. b is a section without its CRC.
+ghost use mathlib.Core.Path.{_≡_};
+ghost use Rattle.rules.specs.Bytes.{from};
+ghost use Rattle.rules.specs.Layout.{entry};
+ghost use Rattle.rules.specs.Tables.{vcmHeadZeros, vcmHeadOf, channelZeros, signalOf, channelOf, channelFair, vcm};
+ghost use Rattle.fields.specs.Place.{Stands};
+use fields::Skip;
+use rules::Channel;
+use rules::Signal;
+use rules::VcmHead;
+
+// Bytes of the head, and of a record.
+pub const HEAD: usize = 7;
+
+pub const SIZE: usize = 9;
+
+pub fn head_zeros(r: &[u8]) -> bool
+    ensures { λ x. ⌜ x ≡ vcmHeadZeros (now (r .entry)) ⌝ }
+{
+    let included = fields::byte(r, 0);
+    let splice = fields::byte(r, 1);
+    if included / 64 != 0 {
+        return false;
+    }
+    if included % 32 != 0 {
+        return false;
+    }
+    if splice % 128 != 0 {
+        return false;
+    }
+    true
+}
+
+// What the head with these bytes says.
+pub fn head_of(r: &[u8]) -> VcmHead
+    ensures { λ x. ⌜ x ≡ vcmHeadOf (now (r .entry)) ⌝ }
+{
+    let included = fields::byte(r, 0);
+    let splice = fields::byte(r, 1);
+    let t3 = fields::byte(r, 2);
+    let t2 = fields::byte(r, 3);
+    let t1 = fields::byte(r, 4);
+    let t0 = fields::byte(r, 5);
+    let count = fields::byte(r, 6);
+    VcmHead {
+        included: included / 32 % 2,
+        splice: splice / 128,
+        time: t3 as u32 * 16777216 + t2 as u32 * 65536 + t1 as u32 * 256 + t0 as u32,
+        count,
+    }
+}
+
+fn channel_zeros(r: &[u8]) -> bool
+    ensures { λ x. ⌜ x ≡ channelZeros (now (r .entry)) ⌝ }
+{
+    let number = fields::byte(r, 0);
+    let flags = fields::byte(r, 2);
+    if number / 16 != 0 {
+        return false;
+    }
+    if flags / 64 % 2 != 0 {
+        return false;
+    }
+    if flags / 16 % 2 == 0 {
+        return true;
+    }
+    let analogue = fields::byte(r, 6);
+    let zero_high = fields::byte(r, 7);
+    let zero_low = fields::byte(r, 8);
+    if analogue / 16 % 8 != 0 {
+        return false;
+    }
+    if zero_high != 0 {
+        return false;
+    }
+    zero_low == 0
+}
+
+fn signal_of(r: &[u8]) -> Signal
+    ensures { λ x. ⌜ x ≡ signalOf (now (r .entry)) ⌝ }
+{
+    let flags = fields::byte(r, 2);
+    let high = fields::byte(r, 6);
+    if flags / 16 % 2 == 0 {
+        let low = fields::byte(r, 7);
+        let mode = fields::byte(r, 8);
+        return Signal::Digital {
+            program: high as u16 * 256 + low as u16,
+            mode,
+        };
+    }
+    Signal::Analogue {
+        scrambled: high / 128,
+        standard: high % 16,
+    }
+}
+
+// What the record with these bytes says.
+pub fn channel_of(r: &[u8]) -> Channel
+    ensures { λ x. ⌜ x ≡ channelOf (now (r .entry)) ⌝ }
+{
+    let number = fields::byte(r, 0);
+    let number_low = fields::byte(r, 1);
+    let flags = fields::byte(r, 2);
+    let source = fields::byte(r, 3);
+    let source_low = fields::byte(r, 4);
+    let carrier = fields::byte(r, 5);
+    let signal = signal_of(r);
+    Channel {
+        number: (number % 16) as u16 * 256 + number_low as u16,
+        application: flags / 128,
+        path: flags / 32 % 2,
+        kind: flags % 16,
+        source: source as u16 * 256 + source_low as u16,
+        carrier,
+        signal,
+    }
+}
+
+fn channel_fair(c: Channel) -> bool
+    ensures { λ x. ⌜ x ≡ channelFair 0 c ⌝ }
+{
+    if 1 < c.kind {
+        return false;
+    }
+    let s = c.signal;
+    match s {
+        Signal::Digital {
+            program: _,
+            mode: _,
+        } => true,
+        Signal::Analogue {
+            scrambled: _,
+            standard,
+        } => standard <= 4,
+    }
+}
+
+// The place behind the record at a place and, where the head says that they are included, behind its descriptors; or 8, 9, 10.
+// A channel record carries its number itself: it takes no index, and 0 stands for one.
+pub fn channel_step(b: &[u8], at: usize, included: u8) -> Skip
+    ensures { λ r. ⌜ Stands (now (b .entry)) r (entry (vcm included) 0 (from (now (b .entry)) at)) ⌝ }
+{
+    if fields::room(b, at) < SIZE {
+        return Skip::Refused(8);
+    }
+    let r = fields::part(b, at, SIZE);
+    if channel_zeros(r) {
+        if channel_fair(channel_of(r)) {
+            return fields::past_counted(b, at + SIZE, included == 1);
+        }
+        return Skip::Refused(10);
+    }
+    Skip::Refused(9)
+}
