@@ -11,6 +11,7 @@ use rules::Measure;
 // Bytes of a record.
 pub const SIZE: usize = 5;
 
+// Its zero bit is 0: else 9.
 fn carriers_zeros(r: &[u8]) -> bool
     ensures { λ x. ⌜ x ≡ carriersZeros (now (r .entry)) ⌝ }
 {
@@ -39,6 +40,7 @@ pub fn carriers_of(r: &[u8]) -> Carriers
     }
 }
 
+// It has carriers, and none at an index above 255: else 10.
 fn carriers_fair(index: u16, c: Carriers) -> bool
     ensures { λ x. ⌜ x ≡ carriersFair index c ⌝ }
 {

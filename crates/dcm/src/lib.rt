@@ -13,6 +13,7 @@ pub const HEAD: usize = 3;
 
 pub const SIZE: usize = 1;
 
+// The zero bits of the head are 0: else 9.
 pub fn head_zeros(r: &[u8]) -> bool
     ensures { λ x. ⌜ x ≡ dcmHeadZeros (now (r .entry)) ⌝ }
 {
@@ -48,6 +49,7 @@ pub fn range_of(r: &[u8]) -> Range
     }
 }
 
+// It has channels, and none above 4095: else 10.
 fn range_fair(first: u16, r: Range) -> bool
     ensures { λ x. ⌜ x ≡ rangeFair first r ⌝ }
 {

@@ -10,6 +10,7 @@ use rules::Mode;
 // Bytes of a record.
 pub const SIZE: usize = 6;
 
+// Its zero bits are 0: else 9.
 fn mode_zeros(r: &[u8]) -> bool
     ensures { λ x. ⌜ x ≡ modeZeros (now (r .entry)) ⌝ }
 {
@@ -40,6 +41,7 @@ pub fn mode_of(r: &[u8]) -> Mode
     }
 }
 
+// Table 5.7 of 003.
 fn system_assigned(x: u8) -> bool
     ensures { λ r. ⌜ r ≡ among x systems ⌝ }
 {
@@ -58,6 +60,7 @@ fn system_assigned(x: u8) -> bool
     false
 }
 
+// Table 5.8 of 003.
 fn inner_assigned(x: u8) -> bool
     ensures { λ r. ⌜ r ≡ among x innerCodings ⌝ }
 {
@@ -91,6 +94,7 @@ fn inner_assigned(x: u8) -> bool
     false
 }
 
+// System, inner coding and format (Table 5.9) are assigned, and the index is at most 255: else 10.
 fn mode_fair(index: u16, m: Mode) -> bool
     ensures { λ x. ⌜ x ≡ modeFair index m ⌝ }
 {

@@ -10,6 +10,7 @@ use fields::Skip;
 use rules::Asked;
 use rules::Revision;
 
+// What a closing list tells: its revision, or the refusal.
 pub enum Closed {
     Refused(u8),
     Revised(Revision),
@@ -53,6 +54,7 @@ fn revised(body: &[u8]) -> Closed
     })
 }
 
+// By the revision descriptors of the whole list: none and several are refused as 11.
 fn judged(b: &[u8], seen: Seen) -> Closed
     ensures { λ r. ⌜ r ≡ closedAs (revision (seenOf (now (b .entry)) seen)) ⌝ }
 {

@@ -5,6 +5,9 @@ ghost use Rattle.rules.specs.Section as rule;
 ghost use Rattle.section.specs.Reads.{namedAs, headerAs};
 use rules::Table;
 
+// Bytes of the header.
+pub const SIZE: usize = 7;
+
 // The table that a header names, or its refusal.
 pub enum Header {
     Refused(u8),
@@ -45,7 +48,7 @@ fn header_whole(t: Table, b: &[u8]) -> Header
     let number = fields::byte(b, 0);
     let high = fields::byte(b, 1);
     let protocol = fields::byte(b, 3);
-    if b.len() < 7 {
+    if b.len() < SIZE {
         return Header::Refused(8);
     }
     if high / 64 != 0 {
@@ -63,6 +66,7 @@ fn header_whole(t: Table, b: &[u8]) -> Header
     Header::Names(t)
 }
 
+// Where the byte of medium and subtype stands.
 fn medium_at(b: &[u8]) -> usize
     ensures { λ r. ⌜ r ≡ mediumAt (now (b .entry)) ⌝ }
 {

@@ -28,6 +28,7 @@ fn length_of(s: &[u8]) -> u16
     (high % 16) as u16 * 256 + low as u16
 }
 
+// At least 8 bytes, exactly 3 + L of them, and L at most 1,021: else 3.
 fn is_fitting(s: &[u8]) -> bool
     ensures { λ r. ⌜ r ≡ fitting (now (s .entry)) ⌝ }
 {
@@ -41,6 +42,7 @@ fn is_fitting(s: &[u8]) -> bool
     l <= 1021
 }
 
+// 0xC2 or 0xC4: else 4.
 fn is_table_number(number: u8) -> bool
     ensures { λ r. ⌜ r ≡ (eqb number 0xC2 || eqb number 0xC4) ⌝ }
 {

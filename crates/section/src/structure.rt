@@ -7,6 +7,7 @@ ghost use Rattle.rules.specs.Layout.{entry, records};
 ghost use Rattle.fields.specs.Place.{Stands};
 ghost use Rattle.section.specs.Kinds.{layoutOf, outlineOf};
 ghost use Rattle.rules.specs.declared.Table.the-variants as table;
+use crate::header;
 use fields::Skip;
 use rules::Table;
 
@@ -29,6 +30,7 @@ pub enum Outline {
     },
 }
 
+// Over the record at a place, by its kind.
 fn step(k: Kind, b: &[u8], at: usize, index: u16) -> Skip
     ensures { λ r. ⌜ Stands (now (b .entry)) r (entry (layoutOf k) index (from (now (b .entry)) at)) ⌝ }
 {
@@ -83,18 +85,19 @@ pub fn past_records(k: Kind, b: &[u8], start: usize, first: u16, count: u8) -> S
     Skip::At(at)
 }
 
+// Of a VCM, by its head: 8, then 9.
 fn vcm_outline(b: &[u8]) -> Outline
     ensures { λ r. ⌜ r ≡ outlineOf table.Vcm (now (b .entry)) ⌝ }
 {
-    if fields::room(b, 7) < vcm::HEAD {
+    if fields::room(b, header::SIZE) < vcm::HEAD {
         return Outline::Refused(8);
     }
-    let r = fields::part(b, 7, vcm::HEAD);
+    let r = fields::part(b, header::SIZE, vcm::HEAD);
     if vcm::head_zeros(r) {
         let h = vcm::head_of(r);
         return Outline::Records {
             kind: Kind::Channels(h.included),
-            start: 7 + vcm::HEAD,
+            start: header::SIZE + vcm::HEAD,
             first: 0,
             count: h.count,
         };
@@ -102,18 +105,19 @@ fn vcm_outline(b: &[u8]) -> Outline
     Outline::Refused(9)
 }
 
+// Of a DCM, by its head: 8, then 9.
 fn dcm_outline(b: &[u8]) -> Outline
     ensures { λ r. ⌜ r ≡ outlineOf table.Dcm (now (b .entry)) ⌝ }
 {
-    if fields::room(b, 7) < dcm::HEAD {
+    if fields::room(b, header::SIZE) < dcm::HEAD {
         return Outline::Refused(8);
     }
-    let r = fields::part(b, 7, dcm::HEAD);
+    let r = fields::part(b, header::SIZE, dcm::HEAD);
     if dcm::head_zeros(r) {
         let h = dcm::head_of(r);
         return Outline::Records {
             kind: Kind::Ranges,
-            start: 7 + dcm::HEAD,
+            start: header::SIZE + dcm::HEAD,
             first: h.first,
             count: h.length,
         };
@@ -121,20 +125,20 @@ fn dcm_outline(b: &[u8]) -> Outline
     Outline::Refused(9)
 }
 
-// The head of the structure, if it has one, taken whole.
+// Where the records of a table stand: right behind the header, or behind a head.
 pub fn outline_of(t: Table, b: &[u8]) -> Outline
     ensures { λ r. ⌜ r ≡ outlineOf t (now (b .entry)) ⌝ }
 {
     match t {
         Table::Cds => Outline::Records {
             kind: Kind::Carriers,
-            start: 7,
+            start: header::SIZE,
             first: fields::byte(b, 4) as u16,
             count: fields::byte(b, 5),
         },
         Table::Mms => Outline::Records {
             kind: Kind::Modes,
-            start: 7,
+            start: header::SIZE,
             first: fields::byte(b, 4) as u16,
             count: fields::byte(b, 5),
         },

@@ -14,6 +14,7 @@ pub const HEAD: usize = 7;
 
 pub const SIZE: usize = 9;
 
+// The zero bits of the head are 0: else 9.
 pub fn head_zeros(r: &[u8]) -> bool
     ensures { λ x. ⌜ x ≡ vcmHeadZeros (now (r .entry)) ⌝ }
 {
@@ -50,6 +51,7 @@ pub fn head_of(r: &[u8]) -> VcmHead
     }
 }
 
+// The zero bits of a record are 0, those of its signal for transport 1: else 9.
 fn channel_zeros(r: &[u8]) -> bool
     ensures { λ x. ⌜ x ≡ channelZeros (now (r .entry)) ⌝ }
 {
@@ -76,6 +78,7 @@ fn channel_zeros(r: &[u8]) -> bool
     zero_low == 0
 }
 
+// Transport 0 is digital, transport 1 analogue.
 fn signal_of(r: &[u8]) -> Signal
     ensures { λ x. ⌜ x ≡ signalOf (now (r .entry)) ⌝ }
 {
@@ -117,6 +120,7 @@ pub fn channel_of(r: &[u8]) -> Channel
     }
 }
 
+// Type at most 1, video standard at most 4: else 10.
 fn channel_fair(c: Channel) -> bool
     ensures { λ x. ⌜ x ≡ channelFair 0 c ⌝ }
 {
