@@ -32,6 +32,7 @@ link_x86() {
 # firmware_archive: proves what is not proved yet and writes target/staticlib/libfirmware.a
 firmware_archive() {
     local log
+    printf '%s: proving the reader and building libfirmware.a\n' "$0" >&2
     log=$(rt staticlib firmware 2>&1) || {
         printf '%s\n' "$log" | tail -n 5 >&2
         printf '%s: rt staticlib firmware failed\n' "$0" >&2

@@ -1,8 +1,8 @@
 -- What a section that reads right is made of, and where its closing list stands.
 use Prim.Native.Nat.{ℕ, _+_, _-_, _≤_}
 use native.Mathlib.Omega.{arith}
-use mathlib.Core.Path.{_≡_, refl, sym, ap, subst, _∙_}
-use mathlib.Core.Bool.{Bool, true, false, _&&_}
+use mathlib.Core.Path.{_≡_, sym, ap, subst, _∙_}
+use mathlib.Core.Bool.{true}
 use mathlib.Core.List.{List}
 use lib.ListN.{length}
 use lib.Dec.{leb, eqb}
@@ -10,7 +10,7 @@ use borrow.Author.Tests.{leb-true}
 use Rattle.rules.specs.Bytes.{Got, refused, got, from}
 use Rattle.rules.specs.Descriptors.{closing}
 use Rattle.rules.specs.Section.{lengthOf, header, structure, Content, contentOf, content, fitting, withoutCrc, whole, right, read, readSection, closingAt}
-use Rattle.rules.proofs.Taken.{unless-got, then-got, giving-got}
+use Rattle.rules.proofs.Taken.{both-left, unless-got, then-got, giving-got}
 use Rattle.rules.proofs.Closing.{closing-size}
 use Rattle.rules.proofs.Places.{structure-place}
 
@@ -37,10 +37,6 @@ right-got : (g : Got Content) (c : Content) → read g ≡ right c → (rest : L
 unfolding read
 right-got (refused n) c e = let z : _≡_ {A = ℕ} 0 1 = cc in absurd (omega arith)
 right-got (got d rest) c e = let k : d ≡ c = cc in (rest, rw k)
-
-both-left : (a b : Bool) → (a && b) ≡ true → a ≡ true
-both-left true b e = refl
-both-left false b e = e
 
 pub fitting-long : (s : List ℕ) → fitting s ≡ true → 8 ≤ length s
 unfolding fitting

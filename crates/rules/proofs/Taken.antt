@@ -2,7 +2,7 @@
 use Prim.Native.Nat.{ℕ, zero, suc, _≤_}
 use native.Mathlib.Omega.{arith}
 use mathlib.Core.Path.{_≡_, refl, sym, ap, _∙_}
-use mathlib.Core.Bool.{Bool, true, false}
+use mathlib.Core.Bool.{Bool, true, false, _&&_}
 use mathlib.Core.List.{List, _∷_}
 use mathlib.Core.Option.{Option, none, some}
 use lib.ListN.{length, take}
@@ -11,6 +11,14 @@ use Rattle.rules.specs.Bytes.{Got, refused, got, unless, andThen, giving
 use Rattle.rules.specs.Descriptors.{counted}
 use Rattle.rules.specs.Layout.{Layout, Numbered, numbered, bare, entry, after, records}
 use Rattle.rules.specs.Section.{given}
+
+pub both-left : (a b : Bool) → (a && b) ≡ true → a ≡ true
+both-left true b e = refl
+both-left false b e = e
+
+pub both-right : (a b : Bool) → (a && b) ≡ true → b ≡ true
+both-right true b e = e
+both-right false b e = let z : _≡_ {A = ℕ} 0 1 = cc in absurd (omega arith)
 
 pub unless-got : {A : Type 0} (t : Bool) (n : ℕ) (g : Got A) (a : A) (rest : List ℕ) → unless t n g ≡ got a rest → (t ≡ true) × (g ≡ got a rest)
 unfolding unless

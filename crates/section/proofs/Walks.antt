@@ -2,7 +2,7 @@
 use Prim.Native.Nat.{ℕ, _+_, _-_, _≤_, _<_}
 use native.Mathlib.Omega.{arith}
 use mathlib.Core.Path.{_≡_, refl, sym, subst, _∙_}
-use mathlib.Core.Bool.{Bool, true, false, _&&_}
+use mathlib.Core.Bool.{Bool, true, false}
 use mathlib.Core.List.{List}
 use lib.ListN.{length}
 use lib.Dec.{leb, ltb}
@@ -16,7 +16,7 @@ use Rattle.rules.specs.declared.Table.{Table}
 use Rattle.rules.specs.declared.Table.the-variants.{Cds, Mms, Vcm, Dcm}
 use Rattle.rules.specs.declared.VcmHead.{VcmHead}
 use Rattle.rules.specs.declared.DcmHead.{DcmHead}
-use Rattle.rules.proofs.Taken.{giving-got, bare-got, records-count}
+use Rattle.rules.proofs.Taken.{both-right, giving-got, bare-got, records-count}
 use Rattle.rules.proofs.Places.{from-from, from-length}
 use Rattle.fields.specs.Place.{leftOf, Stands}
 use Rattle.fields.specs.declared.Skip.{Skip}
@@ -29,17 +29,13 @@ use Rattle.section.specs.declared.structure.Kind.the-variants.{Carriers,
 pub step-as : (k j : Kind) → k ≡ j → (index : ℕ) (b : List ℕ) (r : Skip) (bs : List ℕ) → Stands b r (entry (layoutOf j) index bs) → Stands b r (entry (layoutOf k) index bs)
 step-as k j e index b r bs s = subst (λ (x : Kind). Stands b r (entry (layoutOf x) index bs)) (sym e) s
 
-second : (a b : Bool) → (a && b) ≡ true → b ≡ true
-second true b e = e
-second false b e = let z : _≡_ {A = ℕ} 0 1 = cc in absurd (omega arith)
-
 -- the limits keep an index below 65,536
 pub top : (k : Kind) (index : ℕ) (r : RecordOf k) → index < 65536 → layoutOf k .fair index r ≡ true → index + layoutOf k .takes r < 65536
 unfolding layoutOf cds carriersFair mms modeFair vcm dcm rangeFair
-top Carriers index r h e = let l = leb-true (index + r .count) 256 (second (ltb 0 (r .count)) (leb (index + r .count) 256) e) in omega arith
-top Modes index r h e = let l = leb-true index 255 (second (assigned r) (leb index 255) e) in omega arith
+top Carriers index r h e = let l = leb-true (index + r .count) 256 (both-right (ltb 0 (r .count)) (leb (index + r .count) 256) e) in omega arith
+top Modes index r h e = let l = leb-true index 255 (both-right (assigned r) (leb index 255) e) in omega arith
 top (Channels included) index r h e = omega arith
-top Ranges index r h e = let l = leb-true (index + r .count) 4096 (second (ltb 0 (r .count)) (leb (index + r .count) 4096) e) in omega arith
+top Ranges index r h e = let l = leb-true (index + r .count) 4096 (both-right (ltb 0 (r .count)) (leb (index + r .count) 4096) e) in omega arith
 
 -- the index is not looked at in a channel record
 same-left : {R : Type 0} (x y z d : Bool) (a b : R) (rest : List ℕ) → leftOf (andThen (unless x 8 (unless y 9 (unless z 10 (got a rest)))) (λ r l. giving (λ u. r) (counted d l))) ≡ leftOf (andThen (unless x 8 (unless y 9 (unless z 10 (got b rest)))) (λ r l. giving (λ u. r) (counted d l)))
