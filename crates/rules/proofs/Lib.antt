@@ -6,4 +6,6 @@ pub mod Taken
 pub mod Closing
 pub mod Places
 pub mod Right
+pub mod Held
+pub mod Steps
 pub mod Asking
