@@ -8,4 +8,6 @@ pub mod Places
 pub mod Right
 pub mod Held
 pub mod Steps
+pub mod Store
+pub mod Offers
 pub mod Asking

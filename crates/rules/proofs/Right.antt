@@ -1,16 +1,17 @@
 -- What a section that reads right is made of, and where its closing list stands.
-use Prim.Native.Nat.{ℕ, _+_, _-_, _≤_}
+use Prim.Native.Nat.{ℕ, _+_, _-_, _%_, _≤_}
 use native.Mathlib.Omega.{arith}
 use mathlib.Core.Path.{_≡_, sym, ap, subst, _∙_}
-use mathlib.Core.Bool.{true}
-use mathlib.Core.List.{List}
+use mathlib.Core.Bool.{true, _&&_}
+use mathlib.Core.List.{List, [], _∷_}
 use lib.ListN.{length}
 use lib.Dec.{leb, eqb}
-use borrow.Author.Tests.{leb-true}
-use Rattle.rules.specs.Bytes.{Got, refused, got, from}
+use borrow.Author.Tests.{leb-true, eqb-true}
+use Rattle.rules.specs.Bytes.{Got, refused, got, byte, from}
 use Rattle.rules.specs.Descriptors.{closing}
-use Rattle.rules.specs.Section.{lengthOf, header, structure, Content, contentOf, content, fitting, withoutCrc, whole, right, read, readSection, closingAt}
-use Rattle.rules.proofs.Taken.{both-left, unless-got, then-got, giving-got}
+use Rattle.rules.specs.Section.{lengthOf, header, structure, revision, Content, contentOf, content, fitting, withoutCrc, whole, right, read, readSection, closingAt}
+use Rattle.rules.specs.declared.Revision.{Revision}
+use Rattle.rules.proofs.Taken.{both-left, both-right, unless-got, then-got, giving-got}
 use Rattle.rules.proofs.Closing.{closing-size}
 use Rattle.rules.proofs.Places.{structure-place}
 
@@ -22,6 +23,22 @@ pub record Made (bs : List ℕ) (c : Content) : Type 0 where
   pub built : structure (c .table) bs ≡ got (c .structure) tail
   pub end : List ℕ
   pub closed : closing tail ≡ got (c .closing) end
+  pub version : c .revision .version ≤ 31
+  pub number : c .revision .number ≤ c .revision .last
+
+-- a version has five bits, and no number is above the last one
+revised : (bs : List (List ℕ)) (r : Revision) (rest : List ℕ) → revision bs ≡ got r rest → (r .version ≤ 31) × (r .number ≤ r .last)
+unfolding revision
+revised [] r rest e = let z : _≡_ {A = ℕ} 0 1 = cc in absurd (omega arith)
+revised (b ∷ []) r rest e =
+    let long = unless-got _ _ _ _ _ e in
+    let number = unless-got _ _ _ _ _ (long .1) in
+    let is : r ≡ record { version = byte 0 b % 32; number = byte 1 b; last = byte 2 b } = got-value (number .1) in
+    rw is (omega arith, leb-true (byte 1 b) (byte 2 b) (number .0))
+  where
+    got-value : {A : Type 0} {a c : A} {l m : List ℕ} → got a l ≡ got c m → c ≡ a
+    got-value e = cc
+revised (b ∷ second ∷ more) r rest e = let z : _≡_ {A = ℕ} 0 1 = cc in absurd (omega arith)
 
 pub made : (bs : List ℕ) (c : Content) (rest : List ℕ) → content bs ≡ got c rest → Made bs c
 unfolding content contentOf
@@ -30,8 +47,9 @@ made bs c rest q =
     let x = then-got _ _ _ _ (h .more) in
     let d = then-got _ _ _ _ (x .more) in
     let r = giving-got _ _ _ _ (d .more) in
+    let v = revised _ _ _ (r .1) in
     subst (λ (k : Content). Made bs k) (sym (r .2))
-    (record { behind = h .behind; headed = h .one; tail = x .behind; built = x .one; end = d .behind; closed = d .one })
+    (record { behind = h .behind; headed = h .one; tail = x .behind; built = x .one; end = d .behind; closed = d .one; version = v .0; number = v .1 })
 
 right-got : (g : Got Content) (c : Content) → read g ≡ right c → (rest : List ℕ) × (g ≡ got c rest)
 unfolding read
@@ -42,9 +60,20 @@ pub fitting-long : (s : List ℕ) → fitting s ≡ true → 8 ≤ length s
 unfolding fitting
 fitting-long s f = leb-true 8 (length s) (both-left _ (eqb (length s) (3 + lengthOf s)) (both-left _ (leb (lengthOf s) 1021) f))
 
+-- "a section is at most 1,024 bytes"
+fitting-short : (s : List ℕ) → fitting s ≡ true → length s ≤ 1024
+unfolding fitting
+fitting-short s f =
+    omega (
+      arith,
+      leb-true (lengthOf s) 1021 (both-right (leb 8 (length s) && eqb (length s) (3 + lengthOf s)) _ f),
+      eqb-true (length s) (3 + lengthOf s) (both-right (leb 8 (length s)) _ (both-left _ (leb (lengthOf s) 1021) f)),
+    )
+
 -- a section that reads right
 pub record Right (s : List ℕ) (c : Content) : Type 0 where
   pub long : 8 ≤ length s
+  pub short : length s ≤ 1024
   pub made : Made (withoutCrc s) c
 
 pub reads-right : (s : List ℕ) (c : Content) → readSection s ≡ right c → Right s c
@@ -55,7 +84,7 @@ reads-right s c e =
     let four = unless-got _ _ _ _ _ (three .1) in
     let five = unless-got _ _ _ _ _ (four .1) in
     let six = unless-got _ _ _ _ _ (five .1) in
-    record { long = fitting-long s (three .0); made = made (withoutCrc s) c (g .0) (six .1) }
+    record { long = fitting-long s (three .0); short = fitting-short s (three .0); made = made (withoutCrc s) c (g .0) (six .1) }
 
 -- its closing list stands where the head says
 pub closing-place : (bs : List ℕ) (c : Content) → Made bs c → (end : List ℕ) × (closing (from bs (closingAt bs (c .closing))) ≡ got (c .closing) end)

@@ -32,7 +32,7 @@ neither-right false b e = e
 same : (n : ℕ) → eqb n n ≡ true
 same n = eq-eqb n n refl
 
-differ : true ≡ false → ⊥
+pub differ : true ≡ false → ⊥
 differ e = let z : _≡_ {A = ℕ} 0 1 = cc in omega arith
 
 -- ---- answers
@@ -89,6 +89,10 @@ module _ (limit : ℕ) (h : Holding) where
       ltb-true (h .gathered .held) (allOf (h .gathered .last))
       (both-right (leb (h .gathered .version) 31 && ltb (h .gathered .last) limit && ltb 0 (h .gathered .held)) _ (simp there at (formed e .gathered)))
 
+live-by : (u h : Holding) (v : ℕ) → u .live ≡ h .live → isLive u v ≡ isLive h v
+unfolding isLive
+live-by u h v q = rw q refl
+
 -- ---- a section and the holding of its table
 
 -- another section of the same version
@@ -135,11 +139,15 @@ module _ (h : Holding) (r : Revision) where
       let g : (isGathered h (r .version) && holds (h .gathered .held) k) ≡ true = simp l at e in
       simp (both-left (isGathered h (r .version)) _ g) (holds-kept (h .gathered .held) (2 ^ r .number) k (both-right (isGathered h (r .version)) _ g))
 
-  -- what steps 5 and 6 start from, for every limit
-  pub record Ready (limit : ℕ) : Type 0 where
+  -- what a section that reads right and a well-formed state give, for every limit
+  pub record Sound (limit : ℕ) : Type 0 where
     pub good : holdingFormed limit h ≡ true
     pub version : r .version ≤ 31
     pub number : r .number ≤ r .last
+
+  -- past steps 2 and 3
+  pub record Ready (limit : ℕ) : Type 0 where
+    pub sound : Sound limit
     pub low : r .last < limit
     pub apart : otherLast h r ≡ false
 
@@ -148,12 +156,12 @@ module _ (h : Holding) (r : Revision) where
   held-within limit y = go (isGathered h (r .version)) refl
     where
       one : 2 ^ r .number < 2 ^ (r .last + 1)
-      one = pow-lt (omega (arith, y .number))
+      one = pow-lt (omega (arith, y .sound .number))
 
       go : (b : Bool) → isGathered h (r .version) ≡ b → heldWith h r < 2 ^ (r .last + 1)
       go false e = simp e one
       go true e =
-          let a : h .gathered .held < allOf (r .last) = rw (gathered-last (y .apart) e) at (held-lt limit h (y .good) (r .version) e) in
+          let a : h .gathered .held < allOf (r .last) = rw (gathered-last (y .apart) e) at (held-lt limit h (y .sound .good) (r .version) e) in
           simp e (or-lt (r .last + 1) (h .gathered .held) (2 ^ r .number) (omega (arith, all-lt (r .last))) one)
 
   -- what holds of a holding after the section has been offered
@@ -170,7 +178,7 @@ module _ (h : Holding) (r : Revision) where
   gone-formed limit y =
       record {
         half = omega arith;
-        live = simp (le-leb (r .version) 31 (y .version), lt-ltb (r .last) limit (y .low));
+        live = simp (le-leb (r .version) 31 (y .sound .version), lt-ltb (r .last) limit (y .low));
         gathered = refl;
         apart = refl;
       }
@@ -210,11 +218,11 @@ module _ (h : Holding) (r : Revision) where
     more-formed : (limit : ℕ) → Ready limit → isLive h (r .version) ≡ false → 0 < held → held < allOf (r .last) → Formed limit (gathering h r held)
     unfolding gathering gatheredFormed sameVersion isLive
     more-formed limit y l some few =
-        let f = formed limit h (y .good) in
+        let f = formed limit h (y .sound .good) in
         record {
           half = f .half;
           live = f .live;
-          gathered = simp (le-leb (r .version) 31 (y .version), lt-ltb (r .last) limit (y .low), lt-ltb 0 held some, lt-ltb held (allOf (r .last)) few);
+          gathered = simp (le-leb (r .version) 31 (y .sound .version), lt-ltb (r .last) limit (y .low), lt-ltb 0 held some, lt-ltb held (allOf (r .last)) few);
           apart = l;
         }
 
@@ -242,6 +250,11 @@ module _ (h : Holding) (r : Revision) where
     pub new : isLive h (r .version) ≡ false
     pub complete : heldWith h r ≡ allOf (r .last)
     pub holding : u ≡ goneLive h r
+
+  pub went-changes : (v : ℕ) (u : Holding) → WentLive v u → u .live ≡ h .live → ⊥
+  went-changes v u w q =
+      let now : isLive u (r .version) ≡ true = rw (w .holding) gone-live in
+      differ (sym now ∙ live-by u h (r .version) q ∙ w .new)
 
   -- "it must be last + 1 less those held"
   pub record Joined (missing : ℕ) (u : Holding) : Type 0 where
@@ -274,12 +287,12 @@ module _ (h : Holding) (r : Revision) where
           (more (not-all (r .last) (heldWith h r) (held-within limit (t .ready)) (eqb-false (heldWith h r) (allOf (r .last)) e)))
 
   -- it is kept out, or taken in
-  pub step-cases : (limit : ℕ) (P : Stepped → Type 0) → holdingFormed limit h ≡ true → r .version ≤ 31 → r .number ≤ r .last
+  pub step-cases : (limit : ℕ) (P : Stepped → Type 0) → Sound limit
       → ((a : Answer) → takesIn a ≡ false → P (record { answer = a; holding = h }))
       → (Taking limit → P (stepOf limit h r))
       → P (stepOf limit h r)
   unfolding stepOf
-  step-cases limit P good version number out taken = go (leb limit (r .last)) (otherLast h r) (isRepeat h r) refl refl refl
+  step-cases limit P f out taken = go (leb limit (r .last)) (otherLast h r) (isRepeat h r) refl refl refl
     where
       go : (a b c : Bool) → leb limit (r .last) ≡ a → otherLast h r ≡ b → isRepeat h r ≡ c → P (stepOf limit h r)
       go true b c ea eb ec = simp ea (out (Refused 12) refl)
@@ -287,7 +300,7 @@ module _ (h : Holding) (r : Revision) where
       go false false true ea eb ec = simp (ea, eb, ec) (out Repeat refl)
       go false false false ea eb ec =
           taken
-          (record { ready = record { good = good; version = version; number = number; low = leb-false limit (r .last) ea; apart = eb }; new = ec })
+          (record { ready = record { sound = f; low = leb-false limit (r .last) ea; apart = eb }; new = ec })
 
   step-repeat : (limit : ℕ) → Ready limit → isRepeat h r ≡ true → stepOf limit h r .holding ≡ h
   unfolding stepOf
@@ -297,39 +310,45 @@ module _ (h : Holding) (r : Revision) where
   step-after limit y = go (isRepeat h r) refl
     where
       go : (b : Bool) → isRepeat h r ≡ b → After limit (stepOf limit h r .holding)
-      go true e = rw (step-repeat limit y e) (record { good = y .good; apart = y .apart; new = e; kept = λ k f. f })
+      go true e = rw (step-repeat limit y e) (record { good = y .sound .good; apart = y .apart; new = e; kept = λ k f. f })
       go false e =
           taken-cases limit (λ x. After limit (x .holding)) (record { ready = y; new = e })
           (λ all. after-live limit y) (after-more limit y (not-live e))
 
   -- ---- what the answer tells
 
-  module _ (limit : ℕ) (good : holdingFormed limit h ≡ true) (version : r .version ≤ 31) (number : r .number ≤ r .last) where
+  module _ (limit : ℕ) (f : Sound limit) where
     -- kept out, it leaves the holding
     pub step-kept : takesIn (stepOf limit h r .answer) ≡ false → stepOf limit h r .holding ≡ h
     step-kept =
-        step-cases limit (λ x. takesIn (x .answer) ≡ false → x .holding ≡ h) good version number
+        step-cases limit (λ x. takesIn (x .answer) ≡ false → x .holding ≡ h) f
         (λ a no _. refl)
         (λ t. taken-cases limit (λ x. takesIn (x .answer) ≡ false → x .holding ≡ h) t (λ all no. absurd (differ no)) (λ few no. absurd (differ no)))
 
+    -- an answer of steps 5 and 6 comes from them
+    pub step-taking : takesIn (stepOf limit h r .answer) ≡ true → Taking limit
+    step-taking =
+        step-cases limit (λ x. takesIn (x .answer) ≡ true → Taking limit) f
+        (λ a no yes. absurd (differ (sym yes ∙ no))) (λ t yes. t)
+
     pub step-formed : holdingFormed limit (stepOf limit h r .holding) ≡ true
     step-formed =
-        step-cases limit (λ x. holdingFormed limit (x .holding) ≡ true) good version number
-        (λ a no. good)
+        step-cases limit (λ x. holdingFormed limit (x .holding) ≡ true) f
+        (λ a no. f .good)
         (λ t. step-after limit (t .ready) .good)
 
     -- what is live stays, and the halves, unless the answer is *live*
     pub step-live : goesLive (stepOf limit h r .answer) ≡ false → SameLive (stepOf limit h r .holding) h
     unfolding gathering
     step-live =
-        step-cases limit (λ x. goesLive (x .answer) ≡ false → SameLive (x .holding) h) good version number
+        step-cases limit (λ x. goesLive (x .answer) ≡ false → SameLive (x .holding) h) f
         (λ a no _. record { live = refl; half = refl })
         (λ t. taken-cases limit (λ x. goesLive (x .answer) ≡ false → SameLive (x .holding) h) t
         (λ all no. absurd (differ no)) (λ few _. record { live = refl; half = refl }))
 
     pub step-went : (v : ℕ) → stepOf limit h r .answer ≡ Live v → WentLive v (stepOf limit h r .holding)
     step-went v =
-        step-cases limit (λ x. x .answer ≡ Live v → WentLive v (x .holding)) good version number
+        step-cases limit (λ x. x .answer ≡ Live v → WentLive v (x .holding)) f
         (λ a no e. absurd (differ (sym (ap takesIn e) ∙ no)))
         (λ t. taken-cases limit (λ x. x .answer ≡ Live v → WentLive v (x .holding)) t
         (λ all e. record { version = live-of e; new = not-live (t .new); complete = all; holding = refl })
@@ -338,7 +357,7 @@ module _ (h : Holding) (r : Revision) where
     pub step-stored : (missing : ℕ) → stepOf limit h r .answer ≡ Stored missing → Joined missing (stepOf limit h r .holding)
     unfolding gathering
     step-stored missing =
-        step-cases limit (λ x. x .answer ≡ Stored missing → Joined missing (x .holding)) good version number
+        step-cases limit (λ x. x .answer ≡ Stored missing → Joined missing (x .holding)) f
         (λ a no e. absurd (differ (sym (ap takesIn e) ∙ no)))
         (λ t. taken-cases limit (λ x. x .answer ≡ Stored missing → Joined missing (x .holding)) t
         (λ all e. absurd (differ (ap goesLive e)))

@@ -1,0 +1,181 @@
+"""Mofrindi: compares a program's receiver with receiver.py, over a batch of trials.
+
+compare_receiver.py PROGRAM [--seed N] [--count N] [--parse]
+
+PROGRAM gets all trials on its standard input, as trials.py writes them.  For each section it writes the kind of the
+answer, its value and the 34 bytes of the state after it, and behind a trial's last section the CRC-32 of the store.
+"""
+
+import sys
+import zlib
+from collections import Counter
+
+sys.dont_write_bytecode = True
+
+import trials
+from compare import SHOWN, Failure, Parser, Question, ask, number_from
+from receiver import LIVE, ORDER, OTHER_MAP, REFUSED, REPEAT, STORED, Answer, offer, read
+from section import Refusal
+
+KINDS = (REFUSED, OTHER_MAP, REPEAT, STORED, LIVE)      # their bytes are 0 to 4
+STATE_BYTES = 2 + 8 * len(ORDER)
+STEP_BYTES = 2 + STATE_BYTES
+CRC_BYTES = 4
+COUNT = 1200            # random trials; with the directed ones the comparison takes some seconds
+
+# What the batch must reach; a version of its own is nothing special for live.
+WANTED = (['refused %d' % number for number in range(1, 14)] + ['other map', 'repeat']
+          + ['stored %d' % missing for missing in (1, 2, 3)] + ['live'])
+
+
+def answer_bytes(answer, state):
+    return bytes([KINDS.index(answer.kind), answer.value]) + trials.state_bytes(state)
+
+
+def right_steps(trial):
+    """receiver.py's answers to a trial, and all bytes that a right program writes for it."""
+    store, state = trials.store_of(trial.length, trial.seed), trial.state
+    answers, parts = [], []
+    for section in trial.sections:
+        answer, state = offer(state, store, section)
+        answers.append(answer)
+        parts.append(answer_bytes(answer, state))
+    parts.append(zlib.crc32(store).to_bytes(CRC_BYTES, 'little'))
+    return answers, b''.join(parts)
+
+
+def said(answer):
+    """An answer in words; live without its version."""
+    return '%s %d' % answer if answer.kind in (REFUSED, STORED) else answer.kind
+
+
+def shown_answer(data):
+    kind, value = data[:2]
+    return '%s %d' % (KINDS[kind], value) if kind < len(KINDS) else 'kind %d, value %d' % (kind, value)
+
+
+def shown_state(data):
+    """The map number, then for each table live present/version/last, gathered with held, half."""
+    tables = [data[at:at + 8] for at in range(2, STATE_BYTES, 8)]
+    return 'map %d' % int.from_bytes(data[:2], 'little') + ''.join(
+        ', %s %d/%d/%d %d/%d/%d/0x%02X half %d' % ((name,) + tuple(table)) for name, table in zip(ORDER, tables))
+
+
+def shown_section(section):
+    content = read(section)
+    if isinstance(content, Refusal):
+        what = 'reads wrong'
+    else:
+        what = '%s %d/%d/%d' % (content.table, content.version, content.number, content.last)
+        what += '' if content.map_number is None else ', map %d' % content.map_number
+    start = section[:40].hex() + ('...' if len(section) > 40 else '')
+    return '%s, %d bytes %s' % (what, len(section), start)
+
+
+def first_difference(trial, right, got):
+    """Lines on the first place where a trial's answers differ."""
+    before = trials.state_bytes(trial.state)
+    for at, section in enumerate(trial.sections):
+        here = slice(at * STEP_BYTES, (at + 1) * STEP_BYTES)
+        if right[here] != got[here]:
+            return ['section %d of %d: %s' % (at + 1, len(trial.sections), shown_section(section)),
+                    'state before: %s' % shown_state(before),
+                    'the program:  %s; %s' % (shown_answer(got[here]), shown_state(got[here][2:])),
+                    'receiver.py:  %s; %s' % (shown_answer(right[here]), shown_state(right[here][2:]))]
+        before = right[here][2:]
+    return ['store after the last section: its CRC-32 is %08X, with receiver.py %08X'
+            % tuple(int.from_bytes(data[-CRC_BYTES:], 'little') for data in (got, right))]
+
+
+def print_differences(different):
+    for number, trial, right, got in different[:SHOWN]:
+        print('difference: trial %d (%s: %s), store of %d bytes, seed %d'
+              % (number, trial.family, trial.name, trial.length, trial.seed))
+        for line in first_difference(trial, right, got):
+            print('  ' + line)
+    for family, count in Counter(trial.family for _, trial, _, _ in different).items():
+        print('differences in %s: %d' % (family, count))
+
+
+def print_histogram(batch, answers):
+    """How many of each answer, and of each family of trials with its answers."""
+    reached, families, sizes = Counter(), {}, Counter()
+    for trial, found in zip(batch, answers):
+        words = [said(answer) for answer in found]
+        reached.update(words)
+        families.setdefault(trial.family, Counter()).update(words)
+        sizes[trial.family] += 1
+    print('answers:')
+    for words in WANTED:
+        print('  %-11s %6d' % (words, reached[words]))
+    print('families:')
+    for family, counts in families.items():
+        shown = ', '.join('%s: %d' % (words, counts[words]) for words in WANTED if counts[words])
+        print('  %-24s %5d   %s' % (family, sizes[family], shown))
+    return reached
+
+
+def unmet(batch, answers, reached):
+    """Lines on answers that the batch should reach and doesn't, and on claims that receiver.py doesn't meet."""
+    lines = ['no section has the answer %s' % words for words in WANTED if not reached[words]]
+    for number, (trial, found) in enumerate(zip(batch, answers)):
+        for at, (claim, answer) in enumerate(zip(trial.claims, found)):
+            if claim is not None and claim != answer:
+                lines.append('trial %d (%s: %s), section %d claims %s %d, receiver.py answers %s %d'
+                             % ((number, trial.family, trial.name, at + 1) + claim + answer))
+    return lines
+
+
+def ask_batch(program, batch, sizes):
+    """The program's bytes for each trial; sizes says how many each must have."""
+    question = Question(request=lambda whole: b''.join(map(trials.request, whole)), size=sum(sizes),
+                        answer=None, show=None)
+    got, start = ask(program, [batch], question)[0], 0
+    for size in sizes:
+        yield got[start:start + size]
+        start += size
+
+
+def compare(program, seed, count):
+    """The number of things that went wrong; prints what and where."""
+    batch = trials.batch(seed, count)
+    sizes = [len(trial.sections) * STEP_BYTES + CRC_BYTES for trial in batch]
+    got = list(ask_batch(program, batch, sizes))
+    answers, right = zip(*map(right_steps, batch))
+    lines = unmet(batch, answers, print_histogram(batch, answers))
+    for line in lines[:SHOWN]:
+        print(line)
+    different = [each for each in zip(range(len(batch)), batch, right, got) if each[2] != each[3]]
+    print_differences(different)
+    print('seed %d: %d trials, %d sections, %d trials differ, %d claims not met'
+          % (seed, len(batch), sum(map(len, answers)), len(different), len(lines)))
+    return len(lines) + len(different)
+
+
+def arguments():
+    parser = Parser(description='Compare the receiver of a program with receiver.py, over a batch of generated '
+                                'trials: a state, a store, and sections offered one after the other.',
+                    epilog='Exit: 0 all equal, 1 a difference or a failure, 2 a bad argument.')
+    parser.add_argument('program', metavar='PROGRAM', help='the program to run')
+    parser.add_argument('--seed', metavar='N', type=number_from(0), default=1,
+                        help='seed of the generated trials (default 1)')
+    parser.add_argument('--count', metavar='N', type=number_from(1), default=COUNT,
+                        help='random trials (default %d); the directed ones are always all there' % COUNT)
+    parser.add_argument('--parse', action='store_true',
+                        help='only say whether the arguments are right')
+    return parser.parse_args()
+
+
+def main():
+    given = arguments()
+    if given.parse:
+        return 0
+    try:
+        return 1 if compare(given.program, given.seed, given.count) else 0
+    except Failure as failure:
+        print('compare_receiver: %s' % failure)
+        return 1
+
+
+if __name__ == '__main__':
+    sys.exit(main())
