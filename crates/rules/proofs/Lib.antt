@@ -10,4 +10,5 @@ pub mod Held
 pub mod Steps
 pub mod Store
 pub mod Offers
+pub mod GoingLive
 pub mod Asking

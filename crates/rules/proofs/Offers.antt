@@ -332,3 +332,33 @@ module _ (b : Box) (section : List ℕ) where
       swap : {P Q : Type 0} → P ⊎ Q → Q ⊎ P
       swap (inl x) = inr x
       swap (inr x) = inl x
+
+  -- the places of another table, in both halves
+  pub other-places : (t : Table) → NotOf t section → (half n : ℕ) → half < 2 → n < limitOf s
+      → take 1024 (from (after .store) (placeOf (limitOf s) t half n)) ≡ take 1024 (from (b .store) (placeOf (limitOf s) t half n))
+  other-places t not-of half n halves low = place-kept t half n halves low (λ c k e. not-of .other c (k .passed .reads) (e .0))
+
+  -- the live places of every table, of the section's own too
+  pub live-places : (t : Table) (n : ℕ) → n < limitOf s → take 1024 (from (after .store) (liveAt s t n)) ≡ take 1024 (from (b .store) (liveAt s t n))
+  unfolding liveAt
+  live-places t n low = go (takesIn (answerTo b section)) refl
+    where
+      go : (x : Bool) → takesIn (answerTo b section) ≡ x
+          → take 1024 (from (after .store) (placeOf (limitOf s) t (holdingOf s t .half) n)) ≡ take 1024 (from (b .store) (placeOf (limitOf s) t (holdingOf s t .half) n))
+      go false e = ap (λ (k : Box). take 1024 (from (k .store) (placeOf (limitOf s) t (holdingOf s t .half) n))) (untouched e)
+      go true e =
+          let halves : holdingOf s t .half < 2 = formed (limitOf s) (holdingOf s t) (table-formed s t (taken-in e .1 .passed .good)) .half in
+          place-kept t (holdingOf s t .half) n halves low
+          (λ c k q.
+          let other : 1 - holdingOf s t .half ≡ holdingOf s t .half = ap (λ (u : Table). 1 - holdingOf s u .half) (sym (q .0)) ∙ q .1 in
+          omega arith)
+
+  -- "any bytes behind the last place"
+  pub behind-kept : (p n : ℕ) → storeSize (limitOf s) ≤ p → take n (from (after .store) p) ≡ take n (from (b .store) p)
+  unfolding gatheredAt
+  behind-kept p n le =
+      part-kept p n
+      (λ c k.
+      let fits = place-fits (limitOf s) (c .table) (1 - holdingOf s (c .table) .half) (c .revision .number) (omega arith)
+                 (omega (arith, k .taking .ready .sound .number, k .taking .ready .low)) in
+      inr (omega (arith, fits)))

@@ -1,0 +1,284 @@
+-- The promise of going live: "Sections 0 to last of one version, all reading right with that last and for our map, each
+-- offered in any order with no other version of that table between them, leave it live by the last of them, if state and
+-- store pass checks 1 and 2, last is at most 3 and neither the live nor the gathered table has that version with another
+-- last number." What may stand between them is said by `Offerable`; last is below the limit of sections, which is four.
+use Prim.Native.Nat.{ℕ, _<_, _≤_}
+use native.Mathlib.Omega.{arith}
+use mathlib.Core.Path.{_≡_, refl, sym, ap, _∙_}
+use mathlib.Core.Logic.{_⊎_, inl, inr}
+use mathlib.Core.Bool.{Bool, true, false, _&&_}
+use mathlib.Core.List.{List, [], _∷_}
+use lib.Dec.{eqb}
+use lib.ListN.{length}
+use borrow.Author.Tests.{eqb-true, eq-eqb}
+use Rattle.rules.specs.Section.{Content, Reading, wrong, right, readSection}
+use Rattle.rules.specs.Holding.{limitOf, storeSize, holdingOf, isLive, isGathered, holds, wellFormed, holdingFormed, otherLast, isRepeat, stepOf, otherMap, stepped, takesIn, Box, answerTo, boxAfter, run}
+use Rattle.rules.specs.declared.Table.{Table}
+use Rattle.rules.specs.declared.Holding.{Holding}
+use Rattle.rules.specs.declared.State.{State}
+use Rattle.rules.specs.declared.Revision.{Revision}
+use Rattle.rules.proofs.Taken.{both-left, both-right}
+use Rattle.rules.proofs.Held.{all-held}
+use Rattle.rules.proofs.Steps.{differ, held-lt, gathered-last, live-last, Sound, Ready, After, step-after}
+use Rattle.rules.proofs.Offers.{same-table, table-formed, Passed, passed-sound, offer-cases, NotOf, step-holds, untouched, map-kept, limit-kept, formed-kept, others-kept, length-kept}
+
+-- checks 1 and 2 pass
+pub record Checked (b : Box) : Type 0 where
+  pub roomy : storeSize (limitOf (b .state)) ≤ length (b .store)
+  pub good : wellFormed (b .state) ≡ true
+
+pub checked-kept : (b : Box) (section : List ℕ) → Checked b → Checked (boxAfter b section)
+checked-kept b section k =
+    record { roomy = rw (limit-kept b section, length-kept b section) (k .roomy); good = formed-kept b section (k .good) }
+
+-- the map number alone tells which sections are for another map
+map-by : (s u : State) (c : Content) → s .map ≡ u .map → otherMap s c ≡ otherMap u c
+unfolding otherMap
+map-by s u c e = rw e refl
+
+one-right : {c d : Content} → right c ≡ right d → c ≡ d
+one-right e = cc
+
+not-right : (n : ℕ) (c : Content) → wrong n ≡ right c → ⊥
+not-right n c e = let z : _≡_ {A = ℕ} 0 1 = cc in omega arith
+
+other-map-out : (b : Box) (x : List ℕ) (c : Content) → readSection x ≡ right c → otherMap (b .state) c ≡ true → takesIn (answerTo b x) ≡ false
+unfolding answerTo stepped
+other-map-out b x c r m =
+    offer-cases (b .state) (length (b .store)) x (λ o. takesIn (o .answer) ≡ false) (λ n. refl) refl
+    (λ d p. absurd (differ (sym m ∙ ap (otherMap (b .state)) (one-right (sym r ∙ p .reads)) ∙ p .ours)))
+
+-- once all of 0 to last of a version are held or live, it is live
+all-known : (limit : ℕ) (h : Holding) (v last : ℕ) → holdingFormed limit h ≡ true → otherLast h (record { version = v; number = 0; last = last }) ≡ false
+    → ((k : ℕ) → k ≤ last → isRepeat h (record { version = v; number = k; last = last }) ≡ true) → isLive h v ≡ true
+unfolding isRepeat
+all-known limit h v last good apart f = go (isLive h v) refl
+  where
+    go : (b : Bool) → isLive h v ≡ b → isLive h v ≡ true
+    go true e = e
+    go false e =
+        let got : (k : ℕ) → k ≤ last → (isGathered h v && holds (h .gathered .held) k) ≡ true = λ k le. simp e at (f k le) in
+        let g : isGathered h v ≡ true = both-left (isGathered h v) _ (got 0 (omega arith)) in
+        let same : h .gathered .last ≡ last = gathered-last h (record { version = v; number = 0; last = last }) apart g in
+        let few = rw same at (held-lt limit h good v g) in
+        let all = all-held last (h .gathered .held) (λ k le. both-right (isGathered h v) _ (got k le)) in
+        absurd (omega (arith, few, all))
+
+module _ (start : State) (t : Table) (v last : ℕ) where
+  abbrev revised : (n : ℕ) → Revision
+  revised n = record { version = v; number = n; last = last }
+
+  abbrev own : Box → Holding
+  own b = holdingOf (b .state) t
+
+  -- section n of the version: it reads right with that last and for our map
+  pub record Wanted (n : ℕ) (section : List ℕ) : Type 0 where
+    pub content : Content
+    pub reads : readSection section ≡ right content
+    pub ours : otherMap start content ≡ false
+    pub table : content .table ≡ t
+    pub revision : content .revision ≡ record { version = v; number = n; last = last }
+
+  -- what may be offered to a box meanwhile: a section of the version; one that does not read right or is of another table;
+  -- and whatever the box answers with a refusal, *other map* or *repeat*
+  pub data Offerable (b : Box) (section : List ℕ) : Type 0 where
+    wanted : (n : ℕ) → Wanted n section → Offerable b section
+    elsewhere : NotOf t section → Offerable b section
+    kept-out : takesIn (answerTo b section) ≡ false → Offerable b section
+
+  abbrev pub Each : Box → (sections : List (List ℕ)) → Type 0
+  Each b [] = Unit {0}
+  Each b (x ∷ xs) = Offerable b x × Each (boxAfter b x) xs
+
+  -- section n of the version is among them
+  abbrev pub Among : (n : ℕ) → (sections : List (List ℕ)) → Type 0
+  Among n [] = ⊥
+  Among n (x ∷ xs) = Wanted n x ⊎ Among n xs
+
+  -- ---- one offer
+
+  -- what goes on holding from box to box
+  record Kept (b : Box) : Type 0 where
+    checked : Checked b
+    map : b .state .map ≡ start .map
+    low : last < limitOf (b .state)
+    apart : otherLast (own b) (revised 0) ≡ false
+
+  any-number : (h : Holding) (n m : ℕ) → otherLast h (revised n) ≡ otherLast h (revised m)
+  unfolding otherLast
+  any-number h n m = refl
+
+  module _ (b : Box) (x : List ℕ) (k : Kept b) where
+    passes : (n : ℕ) (w : Wanted n x) → Passed (b .state) (length (b .store)) x (w .content)
+    passes n w =
+        record {
+          roomy = k .checked .roomy;
+          good = k .checked .good;
+          reads = w .reads;
+          ours = map-by (b .state) start (w .content) (k .map) ∙ w .ours;
+        }
+
+    after-wanted : (n : ℕ) → Wanted n x → After (own b) (revised n) (limitOf (b .state)) (own (boxAfter b x))
+    after-wanted n w = go (w .content .table) (w .content .revision) (w .table) (w .revision) (passed-sound _ _ x (w .content) p) (step-holds b x (w .content) p)
+      where
+        p : Passed (b .state) (length (b .store)) x (w .content)
+        p = passes n w
+
+        go : (u : Table) (r : Revision) → u ≡ t → r ≡ revised n → Sound (holdingOf (b .state) u) r (limitOf (b .state))
+            → holdingOf (boxAfter b x .state) u ≡ stepOf (limitOf (b .state)) (holdingOf (b .state) u) r .holding
+            → After (own b) (revised n) (limitOf (b .state)) (own (boxAfter b x))
+        go u r eu er f e =
+            let sound : Sound (own b) (revised n) (limitOf (b .state)) = rw (eu, er) at f in
+            let holds-so : own (boxAfter b x) ≡ stepOf (limitOf (b .state)) (own b) (revised n) .holding = rw (eu, er) at e in
+            rw holds-so (step-after (own b) (revised n) (limitOf (b .state)) (record { sound = sound; low = k .low; apart = any-number (own b) n 0 ∙ k .apart }))
+
+    -- what one offer leaves
+    record One (c : Box) : Type 0 where
+      kept : Kept c
+      known : (n : ℕ) → isRepeat (own b) (revised n) ≡ true → isRepeat (own c) (revised n) ≡ true
+      new : (n : ℕ) → Wanted n x → isRepeat (own c) (revised n) ≡ true
+
+    kept-by : otherLast (own (boxAfter b x)) (revised 0) ≡ false → Kept (boxAfter b x)
+    kept-by e =
+        record {
+          checked = checked-kept b x (k .checked);
+          map = map-kept b x ∙ k .map;
+          low = rw (limit-kept b x) (k .low);
+          apart = e;
+        }
+
+    -- where the table's holding stayed
+    stayed : own (boxAfter b x) ≡ own b → ((n : ℕ) → Wanted n x → isRepeat (own b) (revised n) ≡ true) → One (boxAfter b x)
+    stayed e f =
+        record {
+          kept = kept-by (ap (λ (h : Holding). otherLast h (revised 0)) e ∙ k .apart);
+          known = λ n q. ap (λ (h : Holding). isRepeat h (revised n)) e ∙ q;
+          new = λ n w. ap (λ (h : Holding). isRepeat h (revised n)) e ∙ f n w;
+        }
+
+    -- a wanted section that is kept out is held or live already
+    repeated : takesIn (answerTo b x) ≡ false → (n : ℕ) → Wanted n x → isRepeat (own b) (revised n) ≡ true
+    repeated out n w = ap (λ (c : Box). isRepeat (own c) (revised n)) (sym (untouched b x out)) ∙ after-wanted n w .new
+
+    one : Offerable b x → One (boxAfter b x)
+    one (wanted n w) =
+        record {
+          kept = kept-by (any-number (own (boxAfter b x)) 0 n ∙ after-wanted n w .apart);
+          known = after-wanted n w .kept;
+          new = λ m u. after-wanted m u .new;
+        }
+    one (elsewhere o) = stayed (others-kept b x t o) (λ n w. absurd (o .other (w .content) (w .reads) (w .table)))
+    one (kept-out out) = stayed (ap own (untouched b x out)) (repeated out)
+
+  -- ---- a run of offers
+
+  record Ran (b : Box) (xs : List (List ℕ)) (c : Box) : Type 0 where
+    kept : Kept c
+    known : (n : ℕ) → isRepeat (own b) (revised n) ≡ true → isRepeat (own c) (revised n) ≡ true
+    new : (n : ℕ) → Among n xs → isRepeat (own c) (revised n) ≡ true
+
+  join : (b : Box) (x : List ℕ) (k : Kept b) (d : Box) (xs : List (List ℕ)) → One b x k (boxAfter b x) → Ran (boxAfter b x) xs d → Ran b (x ∷ xs) d
+  join b x k d xs a r = record { kept = r .kept; known = λ n e. r .known n (a .known n e); new = new-of }
+    where
+      new-of : (n : ℕ) → Among n (x ∷ xs) → isRepeat (own d) (revised n) ≡ true
+      new-of n (inl w) = r .known n (a .new n w)
+      new-of n (inr m) = r .new n m
+
+  ran : (xs : List (List ℕ)) (b : Box) → Kept b → Each b xs → Ran b xs (run b xs)
+  unfolding run
+  ran [] b k each = record { kept = k; known = λ n e. e; new = λ n z. absurd z }
+  ran (x ∷ xs) b k each =
+      let a = one b x k (each .0) in
+      join b x k (run (boxAfter b x) xs) xs a (ran xs (boxAfter b x) (a .kept) (each .1))
+
+  -- ---- the promise
+
+  -- "neither the live nor the gathered table has that version with another last number"
+  pub record NoOtherLast (h : Holding) : Type 0 where
+    pub live : isLive h v ≡ true → h .live .last ≡ last
+    pub gathered : isGathered h v ≡ true → h .gathered .last ≡ last
+
+  none-other : (h : Holding) → NoOtherLast h → otherLast h (revised 0) ≡ false
+  unfolding otherLast
+  none-other h o = go (isLive h v) (isGathered h v) refl refl
+    where
+      go : (a g : Bool) → isLive h v ≡ a → isGathered h v ≡ g → otherLast h (revised 0) ≡ false
+      go true true ea eg = simp (ea, eg, eq-eqb _ _ (o .live ea), eq-eqb _ _ (o .gathered eg))
+      go true false ea eg = simp (ea, eg, eq-eqb _ _ (o .live ea))
+      go false true ea eg = simp (ea, eg, eq-eqb _ _ (o .gathered eg))
+      go false false ea eg = simp (ea, eg)
+
+  live-as : (h : Holding) → isLive h v ≡ true → h .live .last ≡ last → h .live ≡ record { present = 1; version = v; last = last }
+  unfolding isLive
+  live-as h e l =
+      rw (
+        ← eqb-true (h .live .present) 1 (both-left (eqb (h .live .present) 1) _ e),
+        ← eqb-true (h .live .version) v (both-right (eqb (h .live .present) 1) _ e),
+        ← l,
+      ) refl
+
+  -- the promise for a box whose state is the one at the start
+  lives : (b : Box) (sections : List (List ℕ)) → Kept b → Each b sections → ((n : ℕ) → n ≤ last → Among n sections)
+      → own (run b sections) .live ≡ record { present = 1; version = v; last = last }
+  lives b sections first each all =
+      let end : Box = run b sections in
+      let r = ran sections b first each in
+      let k = r .kept in
+      let live =
+          all-known (limitOf (end .state)) (own end) v last (table-formed (end .state) t (k .checked .good)) (k .apart)
+          (λ n le. r .new n (all n le)) in
+      live-as (own end) live (live-last (own end) (revised 0) (k .apart) live)
+
+  -- no other version of the table, and no other last: whatever reads right, is for our map and of the table is a section of
+  -- the version with that last. Sections that do not read right, that are for another map or of other tables may stand there
+  pub record NoOther (section : List ℕ) : Type 0 where
+    pub only : (c : Content) → readSection section ≡ right c → otherMap start c ≡ false → c .table ≡ t → (c .revision .version ≡ v) × (c .revision .last ≡ last)
+
+  abbrev pub NoneOther : (sections : List (List ℕ)) → Type 0
+  NoneOther [] = Unit {0}
+  NoneOther (x ∷ xs) = NoOther x × NoneOther xs
+
+  offerable : (b : Box) (x : List ℕ) → b .state .map ≡ start .map → NoOther x → Offerable b x
+  offerable b x e f = go (readSection x) refl
+    where
+      of-table : (c : Content) → readSection x ≡ right c → otherMap start c ≡ false → (c .table ≡ t) ⊎ (c .table ≡ t → ⊥) → Offerable b x
+      of-table c r m (inl q) =
+          let is = f .only c r m q in
+          wanted (c .revision .number) (record { content = c; reads = r; ours = m; table = q; revision = rw (← is .0, ← is .1) refl })
+      of-table c r m (inr ne) = elsewhere (record { other = λ d o q. ne (ap (λ (k : Content). k .table) (one-right (sym r ∙ o)) ∙ q) })
+
+      mapped : (c : Content) → readSection x ≡ right c → (a : Bool) → otherMap start c ≡ a → Offerable b x
+      mapped c r true m = kept-out (other-map-out b x c r (map-by (b .state) start c e ∙ m))
+      mapped c r false m = of-table c r m (same-table (c .table) t)
+
+      go : (r : Reading) → readSection x ≡ r → Offerable b x
+      go (wrong n) r = elsewhere (record { other = λ d o q. not-right n d (sym r ∙ o) })
+      go (right c) r = mapped c r (otherMap start c) refl
+
+  each-offerable : (xs : List (List ℕ)) (b : Box) → b .state .map ≡ start .map → NoneOther xs → Each b xs
+  each-offerable [] b e f = tt
+  each-offerable (x ∷ xs) b e f = (offerable b x e (f .0), each-offerable xs (boxAfter b x) (map-kept b x ∙ e) (f .1))
+
+-- ---- the promise of document 01
+
+module _ (b : Box) (t : Table) (v last : ℕ) (sections : List (List ℕ)) where
+  -- what it asks for: state and store pass checks 1 and 2, last is below the limit, neither the live nor the gathered table
+  -- has that version with another last, and sections 0 to last are offered
+  pub record Promised : Type 0 where
+    pub checks : Checked b
+    pub low : last < limitOf (b .state)
+    pub same : NoOtherLast (b .state) t v last (holdingOf (b .state) t)
+    pub all : (n : ℕ) → n ≤ last → Among (b .state) t v last n sections
+
+  kept-first : Promised → Kept (b .state) t v last b
+  kept-first p =
+      record { checked = p .checks; map = refl; low = p .low; apart = none-other (b .state) t v last (holdingOf (b .state) t) (p .same) }
+
+  pub goes-live : Promised → NoneOther (b .state) t v last sections
+      → holdingOf (run b sections .state) t .live ≡ record { present = 1; version = v; last = last }
+  goes-live p none = lives (b .state) t v last b sections (kept-first p) (each-offerable (b .state) t v last sections b refl none) (p .all)
+
+  -- also with sections between them that the box refuses when they come, as 12 or 13, or repeats of another live version
+  pub goes-live-among : Promised → Each (b .state) t v last b sections
+      → holdingOf (run b sections .state) t .live ≡ record { present = 1; version = v; last = last }
+  goes-live-among p each = lives (b .state) t v last b sections (kept-first p) each (p .all)
