@@ -2,8 +2,9 @@
 
 compare_receiver.py PROGRAM [--seed N] [--count N] [--parse]
 
-PROGRAM gets all trials on its standard input, as trials.py writes them.  For each section it writes the kind of the
-answer, its value and the 34 bytes of the state after it, and behind a trial's last section the CRC-32 of the store.
+PROGRAM gets all trials on its standard input, as trials.py writes them.  For each section it writes the kind
+of the answer, its value and the 34 bytes of the state after it, and behind a trial's last section the CRC-32
+(that of zlib, 4 bytes little-endian) of the whole store.
 """
 
 import sys
@@ -14,14 +15,14 @@ sys.dont_write_bytecode = True
 
 import trials
 from compare import SHOWN, Failure, Parser, Question, ask, number_from
-from receiver import LIVE, ORDER, OTHER_MAP, REFUSED, REPEAT, STORED, Answer, offer, read
+from receiver import LIVE, ORDER, OTHER_MAP, REFUSED, REPEAT, STORED, offer, read
 from section import Refusal
 
 KINDS = (REFUSED, OTHER_MAP, REPEAT, STORED, LIVE)      # their bytes are 0 to 4
 STATE_BYTES = 2 + 8 * len(ORDER)
 STEP_BYTES = 2 + STATE_BYTES
 CRC_BYTES = 4
-COUNT = 1200            # random trials; with the directed ones the comparison takes some seconds
+COUNT = 2000            # random trials; all in all some seconds with the directed ones
 
 # What the batch must reach; a version of its own is nothing special for live.
 WANTED = (['refused %d' % number for number in range(1, 14)] + ['other map', 'repeat']
@@ -56,9 +57,11 @@ def shown_answer(data):
 
 def shown_state(data):
     """The map number, then for each table live present/version/last, gathered with held, half."""
-    tables = [data[at:at + 8] for at in range(2, STATE_BYTES, 8)]
-    return 'map %d' % int.from_bytes(data[:2], 'little') + ''.join(
-        ', %s %d/%d/%d %d/%d/%d/0x%02X half %d' % ((name,) + tuple(table)) for name, table in zip(ORDER, tables))
+    shown = ['map %d' % int.from_bytes(data[:2], 'little')]
+    for at, name in enumerate(ORDER):
+        table = tuple(data[2 + 8 * at:10 + 8 * at])
+        shown.append('%s %d/%d/%d %d/%d/%d/0x%02X half %d' % ((name,) + table))
+    return ', '.join(shown)
 
 
 def shown_section(section):
@@ -116,7 +119,7 @@ def print_histogram(batch, answers):
 
 
 def unmet(batch, answers, reached):
-    """Lines on answers that the batch should reach and doesn't, and on claims that receiver.py doesn't meet."""
+    """Lines on answers that the batch should reach and doesn't, and on claims not met."""
     lines = ['no section has the answer %s' % words for words in WANTED if not reached[words]]
     for number, (trial, found) in enumerate(zip(batch, answers)):
         for at, (claim, answer) in enumerate(zip(trial.claims, found)):
@@ -153,8 +156,9 @@ def compare(program, seed, count):
 
 
 def arguments():
-    parser = Parser(description='Compare the receiver of a program with receiver.py, over a batch of generated '
-                                'trials: a state, a store, and sections offered one after the other.',
+    parser = Parser(description='Compare the receiver of a program with receiver.py, over a batch of '
+                                'generated trials: a state, a store, and sections offered one after the '
+                                'other.',
                     epilog='Exit: 0 all equal, 1 a difference or a failure, 2 a bad argument.')
     parser.add_argument('program', metavar='PROGRAM', help='the program to run')
     parser.add_argument('--seed', metavar='N', type=number_from(0), default=1,

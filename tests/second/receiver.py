@@ -1,7 +1,7 @@
 """Mofrindi: the receiver of document 01, "Holding and going live", a second implementation.
 
-Refusals 1, 2, 12 and 13 are given here, 3 to 11 by the reader in section.py.  A state is never changed: offer()
-answers with the one that follows it.  The store is lent and changed where it stands.
+Refusals 1, 2, 12 and 13 are given here, 3 to 11 by the reader in section.py.  A state is never changed:
+offer() answers with the one that follows it.  The store is lent and changed where it stands.
 """
 
 from collections import namedtuple

@@ -38,9 +38,10 @@ def section(name, offer, more=''):
     return examples.dcm('00 02 03 83 05 81' + closing)
 
 
-def for_map(map_number, offer):
-    """A DCM section of another map."""
-    return examples.whole(0xC4, '00 01 %04X 00 00 00' % map_number + revision(*map(int, offer.split('/'))))
+def for_map(name, map_number, offer):
+    """A VCM or DCM section of another map, without records."""
+    front = {'VCM': '00 00 %04X' + '00' * 7, 'DCM': '00 01 %04X' + '00' * 3}[name] % map_number
+    return examples.whole(0xC4, front + revision(*map(int, offer.split('/'))))
 
 
 def longest(name, offer):
@@ -159,7 +160,8 @@ GOOD = [
     (1, 31, 3, 0, 0, 0, 0, 0), (1, 0, 0, 0, 0, 0, 0, 1),
     (1, 31, 0, 1, 30, 3, 0x7, 0), (1, 30, 0, 1, 31, 3, 0xE, 1),
     (0, 0, 0, 1, 0, 1, 1, 0), (0, 0, 0, 1, 0, 1, 2, 1), (1, 1, 1, 1, 0, 1, 2, 1),
-    (1, 5, 1, 1, 9, 2, 0x1, 0), (1, 5, 1, 1, 9, 2, 0x6, 0), (1, 5, 1, 1, 9, 3, 0x8, 0), (1, 5, 1, 1, 9, 3, 0xB, 0),
+    (1, 5, 1, 1, 9, 2, 0x1, 0), (1, 5, 1, 1, 9, 2, 0x6, 0),
+    (1, 5, 1, 1, 9, 3, 0x8, 0), (1, 5, 1, 1, 9, 3, 0xB, 0),
 ]
 # Not well formed, one thing wrong in each.
 BAD = [
@@ -176,15 +178,19 @@ BAD = [
     ('bit 4', (1, 5, 1, 1, 9, 3, 0x11, 0)), ('bit 5', (1, 5, 1, 1, 9, 3, 0x21, 0)),
     ('bit 6', (1, 5, 1, 1, 9, 3, 0x41, 0)), ('bit 7', (1, 5, 1, 1, 9, 3, 0x81, 0)),
     ('complete and beyond', (1, 5, 1, 1, 9, 3, 0x1F, 0)), ('all bits', (0, 0, 0, 1, 9, 3, 0xFF, 0)),
-    ('both 5', (1, 5, 1, 1, 5, 2, 1, 0)), ('both 0', (1, 0, 2, 1, 0, 2, 1, 1)), ('both 31', (1, 31, 1, 1, 31, 1, 1, 0)),
+    ('both 5', (1, 5, 1, 1, 5, 2, 1, 0)), ('both 0', (1, 0, 2, 1, 0, 2, 1, 1)),
+    ('both 31', (1, 31, 1, 1, 31, 1, 1, 0)),
     ('nothing live, version', (0, 1, 0, 1, 9, 2, 1, 0)), ('nothing live, last', (0, 0, 1, 1, 9, 2, 1, 0)),
     ('nothing live or gathered, version', (0, 5, 0, 0, 0, 0, 0, 1)),
     ('nothing live or gathered, last', (0, 0, 3, 0, 0, 0, 0, 0)),
-    ('nothing gathered, version', (1, 5, 1, 0, 9, 0, 0, 0)), ('nothing gathered, last', (1, 5, 1, 0, 0, 1, 0, 0)),
-    ('nothing gathered, held', (1, 5, 1, 0, 0, 0, 1, 0)), ('nothing gathered, held high', (0, 0, 0, 0, 0, 0, 128, 0)),
+    ('nothing gathered, version', (1, 5, 1, 0, 9, 0, 0, 0)),
+    ('nothing gathered, last', (1, 5, 1, 0, 0, 1, 0, 0)),
+    ('nothing gathered, held', (1, 5, 1, 0, 0, 0, 1, 0)),
+    ('nothing gathered, held high', (0, 0, 0, 0, 0, 0, 128, 0)),
     ('live present 2', (2, 5, 1, 1, 9, 2, 1, 0)), ('live present 255', (255, 5, 1, 0, 0, 0, 0, 0)),
-    ('live present 2, all else 0', (2, 0, 0, 0, 0, 0, 0, 1)), ('gathered present 2', (1, 5, 1, 2, 9, 2, 1, 0)),
-    ('gathered present 255', (0, 0, 0, 255, 9, 2, 1, 0)), ('gathered present 2, all else 0', (1, 5, 1, 2, 0, 0, 0, 0)),
+    ('live present 2, all else 0', (2, 0, 0, 0, 0, 0, 0, 1)),
+    ('gathered present 2', (1, 5, 1, 2, 9, 2, 1, 0)), ('gathered present 255', (0, 0, 0, 255, 9, 2, 1, 0)),
+    ('gathered present 2, all else 0', (1, 5, 1, 2, 0, 0, 0, 0)),
 ]
 
 
@@ -216,18 +222,16 @@ def order_of_checks():
             ('1 before 2', bad, right, 'refused 1', 32767),
             ('1 before 3', good, b'', 'refused 1', 0),
             ('2 before 3', bad, b'', 'refused 2', STORE),
-            ('2 before other map', bad, for_map(0x1235, '12/0/0'), 'refused 2', STORE),
+            ('2 before other map', bad, for_map('DCM', 0x1235, '12/0/0'), 'refused 2', STORE),
             ('no bytes', good, b'', 'refused 3', STORE),
             ('65,535 bytes', good, bytes(65535), 'refused 3', STORE),
             ('right, then bytes up to 65,535', good, right + bytes(65535 - len(right)), 'refused 3', STORE),
             ('CRC', good, wrong_crc, 'refused 5', STORE),
-            ('11 before other map', good, for_map(0x1235, '12/1/0'), 'refused 11', STORE),
+            ('11 before other map', good, for_map('DCM', 0x1235, '12/1/0'), 'refused 11', STORE),
             ('11 before 12', good, section('DCM', '12/5/4'), 'refused 11', STORE),
-            ('other map', good, for_map(0x1235, '12/0/0'), 'other map 0', STORE),
-            ('other map, high byte', good, for_map(0x1334, '12/0/0'), 'other map 0', STORE),
-            ('other map before 12', good, for_map(0x1235, '12/0/4'), 'other map 0', STORE),
-            ('other map before 13', good, for_map(0x1235, '9/0/1'), 'other map 0', STORE),
-            ('other map before repeat', good, for_map(0x1235, '5/0/1'), 'other map 0', STORE),
+            ('other map before 12', good, for_map('DCM', 0x1235, '12/0/4'), 'other map 0', STORE),
+            ('other map before 13', good, for_map('DCM', 0x1235, '9/0/1'), 'other map 0', STORE),
+            ('other map before repeat', good, for_map('DCM', 0x1235, '5/0/1'), 'other map 0', STORE),
             ('12', good, section('DCM', '12/0/4'), 'refused 12', STORE),
             ('12 of 255', good, section('DCM', '12/255/255'), 'refused 12', STORE),
             ('12 before 13, live', good, section('DCM', '5/0/4'), 'refused 12', STORE),
@@ -239,26 +243,34 @@ def order_of_checks():
             ('repeat of live', good, section('DCM', '5/1/1'), 'repeat 0', STORE),
             ('repeat of held', good, section('DCM', '9/1/2'), 'repeat 0', STORE)):
         yield (what,) + untouched(before, data, words, length)
+    for name in ('VCM', 'DCM'):
+        for bit in range(16):
+            yield ('other map, bit %d, %s' % (bit, name),) + untouched(
+                good, for_map(name, MAP ^ 1 << bit, '12/0/0'), 'other map 0')
 
 
 def steps_5_and_6():
-    """(what, table before, offer, answer, table after): DCM, the other tables fresh."""
+    """(what, VCM before, offer, answer, VCM after); the other tables, with a gathered version, stay."""
     for what, before, offer, words, after in (
             ('joins', BOTH, '9/0/2', 'stored 1', (1, 5, 1, 1, 9, 2, 3, 0)),
             ('joins, last one of two missing', BOTH, '9/2/2', 'stored 1', (1, 5, 1, 1, 9, 2, 6, 0)),
             ('drops an older one', BOTH, '10/3/3', 'stored 3', (1, 5, 1, 1, 10, 3, 8, 0)),
             ('drops a newer one', BOTH, '8/1/2', 'stored 2', (1, 5, 1, 1, 8, 2, 2, 0)),
-            ('0 is nothing special', (1, 31, 1, 1, 30, 2, 1, 1), '0/0/1', 'stored 1', (1, 31, 1, 1, 0, 1, 1, 1)),
-            ('0 while nothing is live', (0, 0, 0, 0, 0, 0, 0, 1), '0/0/0', 'live 0', (1, 0, 0, 0, 0, 0, 0, 0)),
-            ('0 of 1 while nothing is live', (0, 0, 0, 0, 0, 0, 0, 1), '0/0/1', 'stored 1', (0, 0, 0, 1, 0, 1, 1, 1)),
+            ('0 after 31', (1, 31, 1, 1, 30, 2, 1, 1), '0/0/1', 'stored 1', (1, 31, 1, 1, 0, 1, 1, 1)),
+            ('0 after 31, at once', (1, 31, 1, 0, 0, 0, 0, 1), '0/0/0', 'live 0', (1, 0, 0, 0, 0, 0, 0, 0)),
+            ('one bit from live', (1, 5, 1, 0, 0, 0, 0, 1), '21/0/1', 'stored 1', (1, 5, 1, 1, 21, 1, 1, 1)),
+            ('one bit from gathered', BOTH, '25/1/2', 'stored 2', (1, 5, 1, 1, 25, 2, 2, 0)),
+            ('0 when fresh', FRESH, '0/0/0', 'live 0', (1, 0, 0, 0, 0, 0, 0, 0)),
+            ('0 of 1 when fresh', FRESH, '0/0/1', 'stored 1', (0, 0, 0, 1, 0, 1, 1, 1)),
             ('live at once', BOTH, '10/0/0', 'live 10', (1, 10, 0, 0, 0, 0, 0, 1)),
-            ('nothing live, half 0', (0, 0, 0, 0, 0, 0, 0, 0), '10/0/0', 'live 10', (1, 10, 0, 0, 0, 0, 0, 1)),
+            ('nothing live, half 0', FRESH[:7] + (0,), '10/0/0', 'live 10', (1, 10, 0, 0, 0, 0, 0, 1)),
             ('completes 1', (1, 5, 3, 1, 9, 1, 2, 1), '9/0/1', 'live 9', (1, 9, 1, 0, 0, 0, 0, 0)),
             ('completes 2', (0, 0, 0, 1, 9, 2, 5, 0), '9/1/2', 'live 9', (1, 9, 2, 0, 0, 0, 0, 1)),
             ('completes 3', (1, 5, 0, 1, 9, 3, 7, 0), '9/3/3', 'live 9', (1, 9, 3, 0, 0, 0, 0, 1))):
-        data = section('DCM', offer)
-        start = STARTS['DCM'][1 - before[7]] + 1024 * int(offer.split('/')[1])
-        yield (what, offered(state('DCM', before), data), (words, state('DCM', after), with_bytes(start, data)))
+        data = section('VCM', offer)
+        start = STARTS['VCM'][1 - before[7]] + 1024 * int(offer.split('/')[1])
+        yield (what, offered(state('VCM', before, BOTH), data),
+               (words, state('VCM', after, BOTH), with_bytes(start, data)))
 
 
 # --------------------------------------------------------------------- the wire

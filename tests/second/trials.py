@@ -14,8 +14,8 @@ from clauses_9_to_11 import from_clauses
 from drafts import fill, make
 from generate import random_damaged, random_garbage, random_plain
 from pieces import Dice, seal, two
-from receiver import (FRESH, LIVE, MOST_LAST, NO_GATHERED, NO_LIVE, ORDER, PLACE_BYTES, REFUSED, REPEAT, STORE_BYTES,
-                      STORED, Answer, Gathered, Live, State, Table, fresh, numbers_to)
+from receiver import (FRESH, LIVE, MOST_LAST, NO_GATHERED, NO_LIVE, ORDER, PLACE_BYTES, REFUSED, REPEAT,
+                      STORE_BYTES, STORED, Answer, Gathered, Live, State, Table, fresh, numbers_to)
 from section import DCM, MMS, VCM
 
 # claims has an answer, or None where none is claimed, for each of the sections.
@@ -31,8 +31,8 @@ SHORTEST = {'CDS': 16, 'MMS': 16, 'VCM': 23, 'DCM': 19}     # no record, and the
 
 # --------------------------------------------------------------- states as bytes
 
-FIELDS = ('live_present', 'live_version', 'live_last', 'gathered_present', 'gathered_version', 'gathered_last',
-          'gathered_held', 'half')
+FIELDS = ('live_present', 'live_version', 'live_last',
+          'gathered_present', 'gathered_version', 'gathered_last', 'gathered_held', 'half')
 
 
 def flat(table):
@@ -81,7 +81,11 @@ def request(trial):
 
 def section_of(dice, table, map_number, version, number, last, total=None):
     """A section (v, n, last) that reads right, of so many bytes if total is given."""
-    draft = make(dice, table, None if total is None or total > 400 else 0, others=None if total is None else 0)
+    if total is None:
+        draft = make(dice, table)
+    else:
+        # Four records and their lists stay below 400 bytes.
+        draft = make(dice, table, None if total > 400 else 0, others=0)
     draft.data('revision')[2:5] = bytes([dice.below(8) << 5 | version, number, last])
     if table in (VCM, DCM):
         draft.data('header')[2:4] = two(map_number)
@@ -193,17 +197,17 @@ OUTSIDE += [('held %s of last %d' % (said, last), changed(table, gathered_last=l
             for said, held in (('empty', 0), ('complete', numbers_to(last)),
                                ('one above', 2 << last), ('0 and one above', 1 | 2 << last),
                                ('complete and one above', numbers_to(last + 1)),
-                               ('bit 4', 1 | 0x10), ('bit 5', 1 | 0x20), ('bit 6', 1 | 0x40), ('bit 7', 1 | 0x80),
+                               ('bit 4', 0x11), ('bit 5', 0x21), ('bit 6', 0x41), ('bit 7', 0x81),
                                ('bit 4 alone', 0x10), ('bit 7 alone', 0x80), ('0xF0', 0xF0), ('0xFF', 0xFF))]
 OUTSIDE += [('both versions %d' % value, changed(BOTH, live_version=value, gathered_version=value))
             for value in (0, 5, 31)]
 OUTSIDE += [('both versions 5, the same last', changed(BOTH, gathered_version=5, live_last=2))]
 OUTSIDE += [('nothing live, %s %d' % (field, value), changed(table, **{field: value}))
             for table in (ONLY_GATHERED, FRESH, FRESH._replace(half=0))
-            for field in ('live_version', 'live_last') for value in (1, 3, 255)]
+            for field in ('live_version', 'live_last') for value in (1, 3, 128, 255)]
 OUTSIDE += [('nothing gathered, %s %d' % (field, value), changed(table, **{field: value}))
             for table in (ONLY_LIVE, FRESH, FRESH._replace(half=0))
-            for field in ('gathered_version', 'gathered_last', 'gathered_held') for value in (1, 3, 255)]
+            for field in ('gathered_version', 'gathered_last', 'gathered_held') for value in (1, 3, 128, 255)]
 OUTSIDE += [('%s %d' % (field, value), changed(table, **{field: value}))
             for table in (BOTH, ONLY_LIVE, ONLY_GATHERED, FRESH)
             for field in ('live_present', 'gathered_present') for value in (2, 3, 128, 129, 254, 255)]
@@ -221,7 +225,8 @@ def inside(dice):
             number = min(n for n in range(4) if not going_on.held >> n & 1)
             offers = [Offer(section_of(dice, name, MAP, going_on.version, number, going_on.last), None),
                       probe(dice, next_name(name), None), probe(dice, name, Answer(LIVE, PROBE))]
-            yield trial(dice, 'state well formed', '%s, %s' % (said, name), given(dice, name, table), offers)
+            yield trial(dice, 'state well formed', '%s, %s' % (said, name),
+                        given(dice, name, table), offers)
 
 
 def outside(dice):
@@ -230,23 +235,23 @@ def outside(dice):
         for said, table in OUTSIDE:
             offers = [probe(dice, name, refused(2)), probe(dice, next_name(name), refused(2)),
                       Offer(bad_section(dice, name), refused(2))]
-            yield trial(dice, 'state not well formed', '%s, %s' % (said, name), given(dice, name, table), offers)
+            yield trial(dice, 'state not well formed', '%s, %s' % (said, name),
+                        given(dice, name, table), offers)
 
 
 def field_sweep(dice):
     """Every value of every byte of a table; the table of the four turns with the value."""
-    starts = [('both', BOTH)] + [('both, last %d' % last, changed(BOTH, gathered_last=last)) for last in (0, 1, 3)]
-    for said, start in starts:
-        for field in FIELDS if start is BOTH else ('gathered_held',):
-            for value in range(256):
-                name = dice.one(ORDER)
-                yield trial(dice, 'every value of a byte', '%s, %s %d, %s' % (said, field, value, name),
-                            given(dice, name, changed(start, **{field: value})), [probe(dice, name, None)])
-    for name in ORDER:
-        for field in FIELDS:
-            for value in (1, 2, 4, 31, 32, 255):
-                yield trial(dice, 'every value of a byte', 'fresh, %s %d, %s' % (field, value, name),
-                            given(dice, name, changed(FRESH, **{field: value})), [probe(dice, name, None)])
+    family = 'every value of a byte'
+    starts = [('both', BOTH, field) for field in FIELDS]
+    starts += [('both, last %d' % last, changed(BOTH, gathered_last=last), 'gathered_held')
+               for last in (0, 1, 3)]
+    for (said, start, field), value in itertools.product(starts, range(256)):
+        name = dice.one(ORDER)
+        yield trial(dice, family, '%s, %s %d, %s' % (said, field, value, name),
+                    given(dice, name, changed(start, **{field: value})), [probe(dice, name, None)])
+    for name, field, value in itertools.product(ORDER, FIELDS, (1, 2, 4, 31, 32, 255)):
+        yield trial(dice, family, 'fresh, %s %d, %s' % (field, value, name),
+                    given(dice, name, changed(FRESH, **{field: value})), [probe(dice, name, None)])
 
 
 # --------------------------------------------------- stores, and 1 before 2 before 3
@@ -261,20 +266,23 @@ def every_table(dice, version, last, total=None):
 def store_lengths(dice):
     for length in STORE_LENGTHS:
         good = length >= STORE_BYTES
-        offers = every_table(dice, 7, 3, PLACE_BYTES) + every_table(dice, 8, 3) + every_table(dice, 9, 3, PLACE_BYTES)
+        said = '%d bytes' % length
+        offers = every_table(dice, 7, 3, PLACE_BYTES) + every_table(dice, 8, 3)
+        offers += every_table(dice, 9, 3, PLACE_BYTES)
         if not good:
             offers = [offer._replace(claim=refused(1)) for offer in offers[:5]]
-        yield trial(dice, 'store length', '%d bytes' % length, fresh(MAP), offers, length)
+        yield trial(dice, 'store length', said, fresh(MAP), offers, length)
         for name in ORDER:
             bad_state = given(dice, name, BOTH._replace(half=2))
             offers = [Offer(b'', refused(2 if good else 1)), probe(dice, name, refused(2 if good else 1))]
-            yield trial(dice, 'store length', '%d bytes, state not well formed, %s' % (length, name), bad_state,
+            yield trial(dice, 'store length', '%s, state not well formed, %s' % (said, name), bad_state,
                         offers, length)
             offers = [Offer(b'', refused(3 if good else 1)),
                       Offer(section_of(dice, name, MAP, 5, 0, 4), refused(12 if good else 1)),
                       Offer(section_of(dice, name, MAP, 5, 0, 1), Answer(REPEAT, 0) if good else refused(1)),
                       Offer(section_of(dice, name, MAP, 5, 0, 0), refused(13 if good else 1))]
-            yield trial(dice, 'store length', '%d bytes, %s' % (length, name), given(dice, name, BOTH), offers, length)
+            yield trial(dice, 'store length', '%s, %s' % (said, name), given(dice, name, BOTH), offers,
+                        length)
 
 
 # ------------------------------------------------------------------ 3 to 11
@@ -307,7 +315,8 @@ def long_sections(dice):
         for total in (1025, 4098, 4099, 32768, MOST_SECTION):
             offers = [Offer(right + bytes(total - len(right)), refused(3)), Offer(right, Answer(STORED, 1)),
                       Offer(seal(right[0], right[3:-4] + bytes(total - len(right))), refused(3))]
-            yield trial(dice, 'long sections', '%d bytes, %s' % (total, name), given(dice, name, FRESH), offers)
+            yield trial(dice, 'long sections', '%d bytes, %s' % (total, name),
+                        given(dice, name, FRESH), offers)
 
 
 # ------------------------------------------------------------------ scripts
@@ -315,55 +324,69 @@ def long_sections(dice):
 # (family, name, live, gathered, offers): each offer is v/n/last with its answer; * marks another map.
 SCRIPTS = [
     ('C13', 'C13', NO_LIVE, NO_GATHERED,
-     '5/0/1 stored 1, 5/0/1 repeat, 6/0/0 live 6, 5/1/1 stored 1, 6/0/0 repeat, 5/0/1 live 5, 5/0/0 refused 13, '
-     '7/0/4 refused 12'),
+     '5/0/1 stored 1, 5/0/1 repeat, 6/0/0 live 6, 5/1/1 stored 1, 6/0/0 repeat, 5/0/1 live 5, '
+     '5/0/0 refused 13, 7/0/4 refused 12'),
 
     ('refusal 12', 'last above 3', live(5, 1), gathered(9, 2, 0),
-     '7/0/4 refused 12, 7/4/4 refused 12, 7/0/5 refused 12, 7/1/6 refused 12, 7/0/7 refused 12, 7/0/8 refused 12, '
-     '7/3/128 refused 12, 7/0/255 refused 12, 7/255/255 refused 12, 9/1/2 stored 1, 9/2/2 live 9'),
-    ('refusal 12', 'v live, 12 before 13', live(5, 1), NO_GATHERED, '5/0/4 refused 12, 5/1/255 refused 12, 5/0/1 repeat'),
+     '7/0/4 refused 12, 7/4/4 refused 12, 7/0/5 refused 12, 7/1/6 refused 12, 7/0/7 refused 12, '
+     '7/0/8 refused 12, 7/3/128 refused 12, 7/0/255 refused 12, 7/255/255 refused 12, 9/1/2 stored 1, '
+     '9/2/2 live 9'),
+    ('refusal 12', 'v live, 12 before 13', live(5, 1), NO_GATHERED,
+     '5/0/4 refused 12, 5/1/255 refused 12, 5/0/1 repeat'),
     ('refusal 12', 'v gathered, 12 before 13', NO_LIVE, gathered(9, 2, 0),
      '9/0/4 refused 12, 9/1/4 refused 12, 9/4/6 refused 12, 9/1/2 stored 1, 9/2/2 live 9'),
-    ('refusal 12', 'when nothing is there', NO_LIVE, NO_GATHERED, '0/0/4 refused 12, 0/0/3 stored 3, 0/1/4 refused 12'),
+    ('refusal 12', 'when nothing is there', NO_LIVE, NO_GATHERED,
+     '0/0/4 refused 12, 0/0/3 stored 3, 0/1/4 refused 12'),
 
     ('refusal 13', 'against live', live(5, 2), NO_GATHERED,
-     '5/0/0 refused 13, 5/0/1 refused 13, 5/1/1 refused 13, 5/0/3 refused 13, 5/3/3 refused 13, 5/0/2 repeat'),
+     '5/0/0 refused 13, 5/0/1 refused 13, 5/1/1 refused 13, 5/0/3 refused 13, 5/3/3 refused 13, '
+     '5/0/2 repeat'),
     ('refusal 13', 'against live while another is gathered', live(5, 1), gathered(9, 2, 0),
-     '5/0/2 refused 13, 9/1/2 stored 1, 5/0/0 refused 13, 9/2/2 live 9, 9/0/1 refused 13, 5/0/2 stored 2'),
+     '5/0/2 refused 13, 9/1/2 stored 1, 5/0/0 refused 13, 9/2/2 live 9, 9/0/1 refused 13, '
+     '5/0/2 stored 2'),
     ('refusal 13', 'against gathered', NO_LIVE, gathered(9, 2, 1),
-     '9/0/0 refused 13, 9/0/1 refused 13, 9/1/1 refused 13, 9/0/3 refused 13, 9/3/3 refused 13, 9/0/2 stored 1, '
-     '9/2/3 refused 13, 9/2/2 live 9, 9/2/3 refused 13'),
+     '9/0/0 refused 13, 9/0/1 refused 13, 9/1/1 refused 13, 9/0/3 refused 13, 9/3/3 refused 13, '
+     '9/0/2 stored 1, 9/2/3 refused 13, 9/2/2 live 9, 9/2/3 refused 13'),
     ('refusal 13', 'against gathered, live has that last', live(5, 1), gathered(9, 2, 1),
      '9/0/1 refused 13, 9/1/1 refused 13, 9/0/2 stored 1, 5/1/1 repeat'),
-    ('refusal 13', 'against live, gathered has that last', live(5, 1), gathered(9, 2, 1), '5/0/2 refused 13, 5/2/2 refused 13'),
-    ('refusal 13', 'forgotten once dropped', NO_LIVE, gathered(9, 2, 0), '10/0/1 stored 1, 9/0/1 stored 1, 9/1/1 live 9'),
+    ('refusal 13', 'against live, gathered has that last', live(5, 1), gathered(9, 2, 1),
+     '5/0/2 refused 13, 5/2/2 refused 13'),
+    ('refusal 13', 'forgotten once dropped', NO_LIVE, gathered(9, 2, 0),
+     '10/0/1 stored 1, 9/0/1 stored 1, 9/1/1 live 9'),
     ('refusal 13', 'forgotten once no longer live', live(5, 1), NO_GATHERED,
      '6/0/0 live 6, 5/0/0 live 5, 6/0/1 stored 1, 6/0/0 refused 13, 6/1/1 live 6'),
 
     ('repeat', 'of live', live(5, 3), NO_GATHERED,
-     '5/0/3 repeat, 5/1/3 repeat, 5/2/3 repeat, 5/3/3 repeat, 6/0/1 stored 1, 5/3/3 repeat, 6/1/1 live 6'),
+     '5/0/3 repeat, 5/1/3 repeat, 5/2/3 repeat, 5/3/3 repeat, 6/0/1 stored 1, 5/3/3 repeat, '
+     '6/1/1 live 6'),
     ('repeat', 'of held', NO_LIVE, gathered(9, 3, 1, 3),
-     '9/1/3 repeat, 9/3/3 repeat, 9/0/3 stored 1, 9/0/3 repeat, 9/2/3 live 9, 9/2/3 repeat, 9/0/3 repeat'),
+     '9/1/3 repeat, 9/3/3 repeat, 9/0/3 stored 1, 9/0/3 repeat, 9/2/3 live 9, 9/2/3 repeat, '
+     '9/0/3 repeat'),
     ('repeat', 'of live while another version is gathered', live(5, 1), gathered(9, 2, 0, 2),
      '5/0/1 repeat, 5/1/1 repeat, 9/0/2 repeat, 5/0/1 repeat, 9/1/2 live 9, 5/0/1 stored 1'),
-    ('repeat', 'n held, of another version', live(5, 1), gathered(9, 2, 0), '10/0/2 stored 2, 9/0/2 stored 2'),
-    ('repeat', 'of live 0/0', live(0, 0), NO_GATHERED, '0/0/0 repeat, 1/0/0 live 1, 0/0/0 live 0, 0/0/0 repeat'),
+    ('repeat', 'n held, of another version', live(5, 1), gathered(9, 2, 0),
+     '10/0/2 stored 2, 9/0/2 stored 2'),
+    ('repeat', 'of live 0/0', live(0, 0), NO_GATHERED,
+     '0/0/0 repeat, 1/0/0 live 1, 0/0/0 live 0, 0/0/0 repeat'),
 
     ('stored', 'missing 1', NO_LIVE, NO_GATHERED, '1/0/1 stored 1, 1/1/1 live 1'),
     ('stored', 'missing 2, 1', NO_LIVE, NO_GATHERED, '1/2/2 stored 2, 1/0/2 stored 1, 1/1/2 live 1'),
-    ('stored', 'missing 3, 2, 1', NO_LIVE, NO_GATHERED, '1/3/3 stored 3, 1/0/3 stored 2, 1/2/3 stored 1, 1/1/3 live 1'),
+    ('stored', 'missing 3, 2, 1', NO_LIVE, NO_GATHERED,
+     '1/3/3 stored 3, 1/0/3 stored 2, 1/2/3 stored 1, 1/1/3 live 1'),
     ('stored', 'missing 3, 2, 1 beside live', live(5, 0), NO_GATHERED,
      '1/0/3 stored 3, 1/2/3 stored 2, 1/1/3 stored 1, 1/3/3 live 1'),
 
     ('live', 'last 0 over live', live(5, 3), NO_GATHERED, '6/0/0 live 6, 7/0/0 live 7, 7/0/0 repeat'),
     ('live', 'last 0 over gathered', NO_LIVE, gathered(9, 3, 0, 1, 2), '6/0/0 live 6, 9/3/3 stored 3'),
-    ('live', 'last 0 over both', live(5, 3), gathered(9, 3, 0, 1, 2), '6/0/0 live 6, 9/3/3 stored 3, 5/0/0 live 5'),
-    ('live', 'last 1, given begun', live(5, 3), gathered(9, 1, 0), '9/1/1 live 9, 9/0/1 repeat, 5/0/3 stored 3'),
+    ('live', 'last 0 over both', live(5, 3), gathered(9, 3, 0, 1, 2),
+     '6/0/0 live 6, 9/3/3 stored 3, 5/0/0 live 5'),
+    ('live', 'last 1, given begun', live(5, 3), gathered(9, 1, 0),
+     '9/1/1 live 9, 9/0/1 repeat, 5/0/3 stored 3'),
     ('live', 'last 2, given begun', live(5, 0), gathered(9, 2, 0, 1), '9/2/2 live 9, 5/0/0 live 5'),
     ('live', 'last 3, given begun', live(5, 2), gathered(9, 3, 1, 2, 3), '9/0/3 live 9, 9/3/3 repeat'),
     ('live', 'each last in turn', NO_LIVE, NO_GATHERED,
-     '1/0/0 live 1, 2/0/1 stored 1, 2/1/1 live 2, 3/2/2 stored 2, 3/1/2 stored 1, 3/0/2 live 3, 4/0/3 stored 3, '
-     '4/3/3 stored 2, 4/1/3 stored 1, 4/2/3 live 4, 5/0/0 live 5'),
+     '1/0/0 live 1, 2/0/1 stored 1, 2/1/1 live 2, 3/2/2 stored 2, 3/1/2 stored 1, 3/0/2 live 3, '
+     '4/0/3 stored 3, 4/3/3 stored 2, 4/1/3 stored 1, 4/2/3 live 4, 5/0/0 live 5'),
 
     ('versions', '31 to 0', live(31, 1), NO_GATHERED,
      '0/0/1 stored 1, 31/0/1 repeat, 0/1/1 live 0, 31/0/1 stored 1, 31/1/1 live 31, 0/0/0 live 0'),
@@ -371,34 +394,43 @@ SCRIPTS = [
      '0/0/1 stored 1, 31/1/1 stored 1, 0/1/1 stored 1, 0/0/1 live 0, 30/0/0 live 30'),
     ('versions', '0 when nothing is there', NO_LIVE, NO_GATHERED,
      '0/0/1 stored 1, 0/0/1 repeat, 0/0/0 refused 13, 0/1/1 live 0, 0/1/1 repeat'),
-    ('versions', '0 of one section when nothing is there', NO_LIVE, NO_GATHERED, '0/0/0 live 0, 0/0/1 refused 13'),
+    ('versions', '0 of one section when nothing is there', NO_LIVE, NO_GATHERED,
+     '0/0/0 live 0, 0/0/1 refused 13'),
     ('versions', '0 when nothing is live', NO_LIVE, gathered(9, 2, 0), '0/0/0 live 0, 9/1/2 stored 2'),
-    ('versions', '0 when nothing is gathered', live(9, 2), NO_GATHERED, '0/1/3 stored 3, 0/0/3 stored 2, 9/0/2 repeat'),
+    ('versions', '0 when nothing is gathered', live(9, 2), NO_GATHERED,
+     '0/1/3 stored 3, 0/0/3 stored 2, 9/0/2 repeat'),
     ('versions', 'older ones', live(20, 1), gathered(21, 1, 0),
-     '19/0/1 stored 1, 19/1/1 live 19, 18/0/0 live 18, 20/0/0 live 20, 4/0/0 live 4, 20/0/1 stored 1, 20/1/1 live 20'),
+     '19/0/1 stored 1, 19/1/1 live 19, 18/0/0 live 18, 20/0/0 live 20, 4/0/0 live 4, 20/0/1 stored 1, '
+     '20/1/1 live 20'),
     ('versions', 'one bit away', live(5, 0), gathered(9, 1, 0),
-     '21/0/0 live 21, 5/0/0 live 5, 13/0/0 live 13, 5/0/0 live 5, 4/0/0 live 4, 5/0/1 stored 1, 7/0/0 live 7'),
+     '21/0/0 live 21, 5/0/0 live 5, 13/0/0 live 13, 5/0/0 live 5, 4/0/0 live 4, 5/0/1 stored 1, '
+     '7/0/0 live 7'),
 
     ('dropping', 'by a newer one', live(5, 1), gathered(9, 3, 0, 1, 2),
      '10/3/3 stored 3, 9/3/3 stored 3, 9/0/3 stored 2, 10/0/3 stored 3'),
     ('dropping', 'by an older one', live(5, 1), gathered(9, 3, 0, 1, 2),
      '8/0/1 stored 1, 8/1/1 live 8, 9/3/3 stored 3, 5/0/1 stored 1, 5/1/1 live 5'),
     ('dropping', 'not by refused ones or repeats', live(5, 1), gathered(9, 3, 0, 1, 2),
-     '10/0/4 refused 12, 5/0/2 refused 13, 5/1/1 repeat, 9/0/2 refused 13, 9/1/3 repeat, 9/3/3 live 9'),
+     '10/0/4 refused 12, 5/0/2 refused 13, 5/1/1 repeat, 9/0/2 refused 13, 9/1/3 repeat, '
+     '9/3/3 live 9'),
     ('dropping', 'back and forth', NO_LIVE, NO_GATHERED,
-     '1/0/1 stored 1, 2/1/1 stored 1, 1/1/1 stored 1, 2/0/1 stored 1, 1/0/1 stored 1, 1/1/1 live 1, 2/1/1 stored 1'),
+     '1/0/1 stored 1, 2/1/1 stored 1, 1/1/1 stored 1, 2/0/1 stored 1, 1/0/1 stored 1, 1/1/1 live 1, '
+     '2/1/1 stored 1'),
 ]
 
 # The same for the tables that have a map number.
 MAP_SCRIPTS = [
-    ('other map', 'plain', NO_LIVE, NO_GATHERED, '5/0/0* other map, 5/0/0 live 5, 5/0/0* other map, 5/0/0 repeat'),
+    ('other map', 'plain', NO_LIVE, NO_GATHERED,
+     '5/0/0* other map, 5/0/0 live 5, 5/0/0* other map, 5/0/0 repeat'),
     ('other map', 'last above 3', live(5, 1), gathered(9, 2, 0),
      '7/0/4* other map, 7/0/255* other map, 5/0/4* other map, 9/0/4* other map, 7/0/4 refused 12'),
     ('other map', 'a version that is gathered', live(5, 1), gathered(9, 2, 0),
-     '9/1/2* other map, 9/0/2* other map, 9/1/3* other map, 9/1/2 stored 1, 9/2/2* other map, 9/2/2 live 9'),
+     '9/1/2* other map, 9/0/2* other map, 9/1/3* other map, 9/1/2 stored 1, 9/2/2* other map, '
+     '9/2/2 live 9'),
     ('other map', 'a version that is live', live(5, 1), gathered(9, 2, 0),
      '5/0/1* other map, 5/0/2* other map, 5/0/1 repeat, 5/0/2 refused 13'),
-    ('other map', 'drops nothing', live(5, 1), gathered(9, 2, 0, 1), '10/0/0* other map, 4/0/1* other map, 9/2/2 live 9'),
+    ('other map', 'drops nothing', live(5, 1), gathered(9, 2, 0, 1),
+     '10/0/0* other map, 4/0/1* other map, 9/2/2 live 9'),
 ]
 
 
@@ -436,7 +468,8 @@ def map_numbers(dice):
             offers = [Offer(section_of(dice, name, other, 5, 0, 0), answer_of('other map')),
                       Offer(section_of(dice, name, ours, 5, 0, 0), Answer(LIVE, 5)),
                       Offer(section_of(dice, MMS, ours, 5, 0, 0), Answer(LIVE, 5))]
-            yield trial(dice, 'other map', '0x%04X, ours 0x%04X, %s' % (other, ours, name), fresh(ours), offers)
+            yield trial(dice, 'other map', '0x%04X, ours 0x%04X, %s' % (other, ours, name),
+                        fresh(ours), offers)
 
 
 # ---------------------------------------------------- orders, places, small scope
@@ -454,7 +487,8 @@ def in_order(dice, name, version, numbers, twice=False):
 def orders(dice):
     """Every order of 0 to last, where nothing is live with either half, and beside live and gathered."""
     beside = Table(live(5, 1), gathered(9, 3, 0, 1), 0)
-    starts = (('nothing live, half 0', FRESH._replace(half=0)), ('nothing live, half 1', FRESH), ('beside live', beside))
+    starts = (('nothing live, half 0', FRESH._replace(half=0)), ('nothing live, half 1', FRESH),
+              ('beside live', beside))
     for last in range(MOST_LAST + 1):
         for numbers in itertools.permutations(range(last + 1)):
             for name, (said, table) in itertools.product(ORDER, starts):
@@ -481,7 +515,8 @@ def interleaved(dice):
             whole = [(name, number) for number in range(last + 1) for name in ORDER]
             for name, number in shuffled(dice, whole) if at >= 8 else whole:
                 offers.append(Offer(section_of(dice, name, MAP, version, number, last), None))
-        yield trial(dice, 'four tables', 'mixed, last %d' % last, fresh(MAP) if at % 2 else any_state(dice), offers)
+        state = fresh(MAP) if at % 2 else any_state(dice)
+        yield trial(dice, 'four tables', 'mixed, last %d' % last, state, offers)
 
 
 def sizes(dice):
@@ -491,8 +526,8 @@ def sizes(dice):
             for length in (STORE_BYTES, STORE_BYTES + 1, 40000):
                 offers = []
                 for version, total in enumerate((1024, 1023, SHORTEST[name], SHORTEST[name] + 1, 1024, 500)):
-                    numbers = shuffled(dice, range(4))
-                    offers += [Offer(section_of(dice, name, MAP, version, n, 3, total), None) for n in numbers]
+                    offers += [Offer(section_of(dice, name, MAP, version, number, 3, total), None)
+                               for number in shuffled(dice, range(4))]
                     offers.append(Offer(section_of(dice, name, MAP, version, 0, 3, 1024), Answer(REPEAT, 0)))
                 yield trial(dice, 'sizes', '%s, half %d, store of %d' % (name, half, length),
                             given(dice, name, FRESH._replace(half=half)), offers, length)
@@ -501,12 +536,16 @@ def sizes(dice):
 SCOPE_LIVES = [NO_LIVE] + [live(5, last) for last in range(4)]
 SCOPE_GATHERED = [NO_GATHERED] + [Gathered(1, 9, last, held)
                                   for last in (1, 2, 3) for held in range(1, numbers_to(last))]
-SCOPE_OFFERS = [(version, number, last) for version in (5, 9, 0) for last in range(5) for number in range(last + 1)
-                if last <= MOST_LAST or number == 0]
+SCOPE_OFFERS = [(version, number, last) for version in (5, 9, 0)
+                for last in range(MOST_LAST + 1) for number in range(last + 1)]
+SCOPE_OFFERS += [(version, 0, MOST_LAST + 1) for version in (5, 9, 0)]
 
 
 def small_scope(dice):
-    """Each live and gathered of two versions with each offer of these and a third; tables and halves by turns."""
+    """Each live and gathered of two versions with each offer of these and a third.
+
+    Tables and halves take turns.
+    """
     made = {}
     turn = dice.below(8)
     for lives, gathering, offer in itertools.product(SCOPE_LIVES, SCOPE_GATHERED, SCOPE_OFFERS):
@@ -529,8 +568,7 @@ def near_section(dice, state):
     table = state.tables[ORDER.index(name)]
     if dice.chance(12):
         return bad_section(dice, name)
-    version = dice.one((table.live.version % 32, table.gathered.version % 32, table.gathered.version % 32,
-                        dice.below(32)))
+    version = dice.one((table.live.version, table.gathered.version, table.gathered.version, dice.below(32)))
     last = dice.one((table.live.last, table.gathered.last, table.gathered.last, dice.below(4)))
     last = dice.between(4, 255) if dice.chance(12) else last
     map_number = another_map(dice, state.map_number) if dice.chance(12) else state.map_number
@@ -554,8 +592,8 @@ def random_touched(dice):
     name, field = dice.one(ORDER), dice.one(FIELDS)
     value = dice.below(256) if dice.chance(3) else dice.below(5)
     table = changed(state.tables[ORDER.index(name)], **{field: value})
-    return trial(dice, 'random state', 'touched, %s %s %d' % (name, field, value), with_table(state, name, table),
-                 near_sections(dice, state))
+    return trial(dice, 'random state', 'touched, %s %s %d' % (name, field, value),
+                 with_table(state, name, table), near_sections(dice, state))
 
 
 class Sender:
@@ -622,7 +660,8 @@ def refused_section(dice, sender):
     return bad_section(dice, sender.name)
 
 
-NOISE = (lost, other_bytes, new_version, stray_version, new_last, last_above_3, for_another_map, refused_section)
+NOISE = (lost, other_bytes, new_version, stray_version, new_last, last_above_3, for_another_map,
+         refused_section)
 
 
 def random_run(dice):
@@ -630,13 +669,14 @@ def random_run(dice):
     map_number = dice.below(0x10000)
     state = any_state(dice, map_number) if dice.chance(3) else fresh(map_number)
     senders = [Sender(dice, name, map_number) for name in ORDER]
-    quiet = dice.one((2, 4, 10, 25))
+    quiet = dice.one((2, 3, 5, 12))
     offers = []
     for _ in range(dice.between(30, 200)):
         sender = dice.one(senders)
         section = dice.one(NOISE)(dice, sender) if dice.chance(quiet) else sender.send()
         offers.append(Offer(section, None))
-    return trial(dice, 'long run', 'noise in one of %d' % quiet, state, offers, dice.one((STORE_BYTES, 40000)))
+    return trial(dice, 'long run', 'noise in one of %d' % quiet, state, offers,
+                 dice.one((STORE_BYTES, 40000)))
 
 
 def random_trials(dice, count):

@@ -18,6 +18,7 @@ use Rattle.rules.specs.declared.Holding.{Holding}
 use Rattle.rules.specs.declared.State.{State}
 use Rattle.rules.specs.declared.Revision.{Revision}
 use Rattle.rules.proofs.Taken.{both-left, both-right}
+use Rattle.rules.proofs.Right.{one-right, not-right}
 use Rattle.rules.proofs.Held.{all-held}
 use Rattle.rules.proofs.Steps.{differ, held-lt, gathered-last, live-last, Sound, Ready, After, step-after}
 use Rattle.rules.proofs.Offers.{same-table, table-formed, Passed, passed-sound, offer-cases, NotOf, step-holds, untouched, map-kept, limit-kept, formed-kept, others-kept, length-kept}
@@ -35,12 +36,6 @@ checked-kept b section k =
 map-by : (s u : State) (c : Content) → s .map ≡ u .map → otherMap s c ≡ otherMap u c
 unfolding otherMap
 map-by s u c e = rw e refl
-
-one-right : {c d : Content} → right c ≡ right d → c ≡ d
-one-right e = cc
-
-not-right : (n : ℕ) (c : Content) → wrong n ≡ right c → ⊥
-not-right n c e = let z : _≡_ {A = ℕ} 0 1 = cc in omega arith
 
 other-map-out : (b : Box) (x : List ℕ) (c : Content) → readSection x ≡ right c → otherMap (b .state) c ≡ true → takesIn (answerTo b x) ≡ false
 unfolding answerTo stepped
@@ -63,6 +58,21 @@ all-known limit h v last good apart f = go (isLive h v) refl
         let few = rw same at (held-lt limit h good v g) in
         let all = all-held last (h .gathered .held) (λ k le. both-right (isGathered h v) _ (got k le)) in
         absurd (omega (arith, few, all))
+
+-- "neither the live nor the gathered table has that version with another last number"
+pub record NoOtherLast (v last : ℕ) (h : Holding) : Type 0 where
+  pub live : isLive h v ≡ true → h .live .last ≡ last
+  pub gathered : isGathered h v ≡ true → h .gathered .last ≡ last
+
+none-other : (v last : ℕ) (h : Holding) → NoOtherLast v last h → otherLast h (record { version = v; number = 0; last = last }) ≡ false
+unfolding otherLast
+none-other v last h o = go (isLive h v) (isGathered h v) refl refl
+  where
+    go : (a g : Bool) → isLive h v ≡ a → isGathered h v ≡ g → otherLast h (record { version = v; number = 0; last = last }) ≡ false
+    go true true ea eg = simp (ea, eg, eq-eqb _ _ (o .live ea), eq-eqb _ _ (o .gathered eg))
+    go true false ea eg = simp (ea, eg, eq-eqb _ _ (o .live ea))
+    go false true ea eg = simp (ea, eg, eq-eqb _ _ (o .gathered eg))
+    go false false ea eg = simp (ea, eg)
 
 module _ (start : State) (t : Table) (v last : ℕ) where
   abbrev revised : (n : ℕ) → Revision
@@ -193,21 +203,6 @@ module _ (start : State) (t : Table) (v last : ℕ) where
 
   -- ---- the promise
 
-  -- "neither the live nor the gathered table has that version with another last number"
-  pub record NoOtherLast (h : Holding) : Type 0 where
-    pub live : isLive h v ≡ true → h .live .last ≡ last
-    pub gathered : isGathered h v ≡ true → h .gathered .last ≡ last
-
-  none-other : (h : Holding) → NoOtherLast h → otherLast h (revised 0) ≡ false
-  unfolding otherLast
-  none-other h o = go (isLive h v) (isGathered h v) refl refl
-    where
-      go : (a g : Bool) → isLive h v ≡ a → isGathered h v ≡ g → otherLast h (revised 0) ≡ false
-      go true true ea eg = simp (ea, eg, eq-eqb _ _ (o .live ea), eq-eqb _ _ (o .gathered eg))
-      go true false ea eg = simp (ea, eg, eq-eqb _ _ (o .live ea))
-      go false true ea eg = simp (ea, eg, eq-eqb _ _ (o .gathered eg))
-      go false false ea eg = simp (ea, eg)
-
   live-as : (h : Holding) → isLive h v ≡ true → h .live .last ≡ last → h .live ≡ record { present = 1; version = v; last = last }
   unfolding isLive
   live-as h e l =
@@ -225,8 +220,8 @@ module _ (start : State) (t : Table) (v last : ℕ) where
       let r = ran sections b first each in
       let k = r .kept in
       let live =
-          all-known (limitOf (end .state)) (own end) v last (table-formed (end .state) t (k .checked .good)) (k .apart)
-          (λ n le. r .new n (all n le)) in
+      all-known (limitOf (end .state)) (own end) v last (table-formed (end .state) t (k .checked .good)) (k .apart)
+      (λ n le. r .new n (all n le)) in
       live-as (own end) live (live-last (own end) (revised 0) (k .apart) live)
 
   -- no other version of the table, and no other last: whatever reads right, is for our map and of the table is a section of
@@ -267,12 +262,12 @@ module _ (b : Box) (t : Table) (v last : ℕ) (sections : List (List ℕ)) where
   pub record Promised : Type 0 where
     pub checks : Checked b
     pub low : last < limitOf (b .state)
-    pub same : NoOtherLast (b .state) t v last (holdingOf (b .state) t)
+    pub same : NoOtherLast v last (holdingOf (b .state) t)
     pub all : (n : ℕ) → n ≤ last → Among (b .state) t v last n sections
 
   kept-first : Promised → Kept (b .state) t v last b
   kept-first p =
-      record { checked = p .checks; map = refl; low = p .low; apart = none-other (b .state) t v last (holdingOf (b .state) t) (p .same) }
+      record { checked = p .checks; map = refl; low = p .low; apart = none-other v last (holdingOf (b .state) t) (p .same) }
 
   pub goes-live : Promised → NoneOther (b .state) t v last sections
       → holdingOf (run b sections .state) t .live ≡ record { present = 1; version = v; last = last }

@@ -360,5 +360,5 @@ module _ (b : Box) (section : List ℕ) where
       part-kept p n
       (λ c k.
       let fits = place-fits (limitOf s) (c .table) (1 - holdingOf s (c .table) .half) (c .revision .number) (omega arith)
-                 (omega (arith, k .taking .ready .sound .number, k .taking .ready .low)) in
+      (omega (arith, k .taking .ready .sound .number, k .taking .ready .low)) in
       inr (omega (arith, fits)))

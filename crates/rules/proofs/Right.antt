@@ -9,7 +9,7 @@ use lib.Dec.{leb, eqb}
 use borrow.Author.Tests.{leb-true, eqb-true}
 use Rattle.rules.specs.Bytes.{Got, refused, got, byte, from}
 use Rattle.rules.specs.Descriptors.{closing}
-use Rattle.rules.specs.Section.{lengthOf, header, structure, revision, Content, contentOf, content, fitting, withoutCrc, whole, right, read, readSection, closingAt}
+use Rattle.rules.specs.Section.{lengthOf, header, structure, revision, Content, contentOf, content, fitting, withoutCrc, whole, wrong, right, read, readSection, closingAt}
 use Rattle.rules.specs.declared.Revision.{Revision}
 use Rattle.rules.proofs.Taken.{both-left, both-right, unless-got, then-got, giving-got}
 use Rattle.rules.proofs.Closing.{closing-size}
@@ -55,6 +55,13 @@ right-got : (g : Got Content) (c : Content) → read g ≡ right c → (rest : L
 unfolding read
 right-got (refused n) c e = let z : _≡_ {A = ℕ} 0 1 = cc in absurd (omega arith)
 right-got (got d rest) c e = let k : d ≡ c = cc in (rest, rw k)
+
+-- a section reads as one thing
+pub one-right : {c d : Content} → right c ≡ right d → c ≡ d
+one-right e = cc
+
+pub not-right : (n : ℕ) (c : Content) → wrong n ≡ right c → ⊥
+not-right n c e = let z : _≡_ {A = ℕ} 0 1 = cc in omega arith
 
 pub fitting-long : (s : List ℕ) → fitting s ≡ true → 8 ≤ length s
 unfolding fitting

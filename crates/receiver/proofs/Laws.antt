@@ -1,0 +1,128 @@
+-- What each way through an offer shows: that its answer, its state and its store are the rule's.
+use Prim.Native.Nat.{ℕ, _+_, _<_, _≤_}
+use native.Mathlib.Omega.{arith}
+use mathlib.Core.Path.{_≡_, refl, sym, ap, _∙_}
+use mathlib.Core.Bool.{Bool, true, false}
+use mathlib.Core.List.{List}
+use lib.ListN.{length}
+use borrow.Author.Tests.{lt-ltb, le-ltb}
+use Rattle.rules.specs.Section.{Content, Reading, wrong, right, withoutCrc, readSection, headOf, readAs}
+use Rattle.rules.specs.Holding.{limitOf, tables, indexOf, storeSize, put, holdingOf, gatheredAt, wellFormed, stepOf, otherMap, stepped, offeredAs, offered, takesIn, putAs, storeAfter, Box, answerTo, boxAfter}
+use Rattle.rules.specs.declared.Table.{Table}
+use Rattle.rules.specs.declared.State.{State}
+use Rattle.rules.specs.declared.Holding.{Holding}
+use Rattle.rules.specs.declared.Revision.{Revision}
+use Rattle.rules.specs.declared.SectionHead.{SectionHead}
+use Rattle.rules.specs.declared.Offered.{Offered}
+use Rattle.rules.specs.declared.Answer.{Answer}
+use Rattle.rules.specs.declared.Answer.the-variants.{Refused}
+use Rattle.rules.specs.declared.Read.the-variants as Read
+use Rattle.rules.proofs.Right.{one-right, reads-right}
+use Rattle.rules.proofs.Store.{index-lt}
+use Rattle.rules.proofs.Offers.{TakenIn, taken-in}
+use Rattle.holding.specs.Given.{limit, stepGiven}
+use Rattle.receiver.specs.Taking.{forOther, answered}
+
+pub index-small : (t : Table) → indexOf t < 4
+unfolding tables
+index-small = index-lt
+
+-- the answer of a step of a section that reads right
+step-right : (h : Holding) (r : Revision) → r .number ≤ r .last → stepGiven h r ≡ stepOf limit h r
+unfolding stepGiven
+step-right h r le = simp (le-ltb (r .last) (r .number) le)
+
+refused-as : (n : ℕ) (s : List ℕ) (r : Reading) → Read.Refused n ≡ readAs s r → r ≡ wrong n
+unfolding readAs
+refused-as n s (wrong m) e = let k : m ≡ n = cc in rw k
+refused-as n s (right c) e = let z : _≡_ {A = ℕ} 0 1 = cc in absurd (omega arith)
+
+-- a section that reads right, and its head
+pub record Told (s : List ℕ) (head : SectionHead) : Type 0 where
+  pub content : Content
+  pub reads : readSection s ≡ right content
+  pub is : head ≡ headOf (withoutCrc s) content
+
+pub told : (s : List ℕ) (head : SectionHead) → Read.Right head ≡ readAs s (readSection s) → Told s head
+unfolding readAs
+told s head e = go (readSection s) refl e
+  where
+    go : (r : Reading) → readSection s ≡ r → Read.Right head ≡ readAs s r → Told s head
+    go (wrong n) q e = let z : _≡_ {A = ℕ} 0 1 = cc in absurd (omega arith)
+    go (right c) q e = record { content = c; reads = q; is = cc }
+
+module _ (s : State) (store section : List ℕ) where
+  -- an answer with its state, and a store, that are the rule's
+  pub record Rule (o : Offered) (after : List ℕ) : Type 0 where
+    pub answer : o ≡ offered s (length store) section
+    pub bytes : after ≡ storeAfter s store section
+
+  -- the store is as it was where nothing is taken in
+  kept : (o : Offered) → o ≡ offered s (length store) section → takesIn (o .answer) ≡ false → Rule o store
+  unfolding storeAfter
+  kept o e out =
+      let e′ : takesIn (offered s (length store) section .answer) ≡ false = sym (ap (λ (x : Offered). takesIn (x .answer)) e) ∙ out in
+      record { answer = e; bytes = simp e′ }
+
+  pub short-store : length store < 32768 → Rule (record { answer = Refused 1; state = s }) store
+  unfolding offered storeSize tables limitOf
+  short-store lt = kept _ (simp (lt-ltb (length store) 32768 lt)) refl
+
+  module _ (roomy : 32768 ≤ length store) where
+    pub not-formed : wellFormed s ≡ false → Rule (record { answer = Refused 2; state = s }) store
+    unfolding offered storeSize tables limitOf
+    not-formed e = kept _ (simp (le-ltb (length store) 32768 roomy, e)) refl
+
+    module _ (good : wellFormed s ≡ true) where
+      pub refused : (n : ℕ) → Read.Refused n ≡ readAs section (readSection section) → Rule (record { answer = Refused n; state = s }) store
+      unfolding offered offeredAs storeSize tables limitOf
+      refused n e = kept _ (simp (le-ltb (length store) 32768 roomy, good, refused-as n section (readSection section) e)) refl
+
+      module _ (head : SectionHead) (t : Told section head) where
+        answers : answered s head ≡ offered s (length store) section
+        unfolding answered forOther offered offeredAs otherMap storeSize tables limitOf headOf
+        answers =
+            rw (t .is)
+            (simp (
+              le-ltb (length store) 32768 roomy,
+              good,
+              t .reads,
+              step-right (holdingOf s (t .content .table)) (t .content .revision) (reads-right section (t .content) (t .reads) .made .number),
+            ))
+
+        pub kept-out : (o : Offered) → o ≡ answered s head → takesIn (o .answer) ≡ false → Rule o store
+        kept-out o e out = kept o (e ∙ answers) out
+
+        -- the place of a section that is taken in, which is the one that the rule puts it into
+        pub record Place : Type 0 where
+          pub number : head .revision .number < 4
+          pub fits : gatheredAt s (head .table) (head .revision .number) + length section ≤ length store
+          pub put : put store (gatheredAt s (head .table) (head .revision .number)) section ≡ storeAfter s store section
+
+        taken-place : takesIn (offered s (length store) section .answer) ≡ true → Place
+        unfolding answerTo boxAfter headOf limitOf
+        taken-place took = go (taken-in b section took .0) (taken-in b section took .1)
+          where
+            b : Box
+            b = record { state = s; store = store }
+
+            go : (c : Content) → TakenIn b section c → Place
+            go c k =
+                let same : c ≡ t .content = one-right (sym (k .passed .reads) ∙ t .reads) in
+                let number : head .revision .number ≡ c .revision .number = ap (λ (h : SectionHead). h .revision .number) (t .is) ∙ sym (ap (λ (x : Content). x .revision .number) same) in
+                let at : gatheredAt s (head .table) (head .revision .number) ≡ gatheredAt s (c .table) (c .revision .number) =
+                ap (λ (h : SectionHead). gatheredAt s (h .table) (h .revision .number)) (t .is)
+                ∙ sym (ap (λ (x : Content). gatheredAt s (x .table) (x .revision .number)) same) in
+                let low = k .taking .ready .low in
+                let le = k .taking .ready .sound .number in
+                record {
+                  number = omega arith;
+                  fits = rw at (k .fits);
+                  put = ap (λ (n : ℕ). put store n section) at ∙ sym (k .stored);
+                }
+
+        pub place : (o : Offered) → o ≡ answered s head → takesIn (o .answer) ≡ true → Place
+        place o e took = taken-place (sym (ap (λ (x : Offered). takesIn (x .answer)) (e ∙ answers)) ∙ took)
+
+        pub taken : (o : Offered) → o ≡ answered s head → takesIn (o .answer) ≡ true → Rule o (put store (gatheredAt s (head .table) (head .revision .number)) section)
+        taken o e took = record { answer = e ∙ answers; bytes = place o e took .put }
