@@ -1,0 +1,65 @@
+-- A state as bytes, and answers and states as numbers.
+use Prim.Native.Nat.{ℕ, _+_, _*_}
+use mathlib.Core.Bool.{cond}
+use mathlib.Core.List.{List}
+use lib.Dec.{eqb}
+use Rattle.rules.specs.Bytes.{byte}
+use Rattle.rules.specs.declared.Holding.{Holding}
+use Rattle.rules.specs.declared.State.{State}
+use Rattle.rules.specs.declared.Offered.{Offered}
+use Rattle.rules.specs.declared.Answer.{Answer}
+use Rattle.rules.specs.declared.Answer.the-variants.{Refused, OtherMap, Repeat, Stored, Live}
+
+-- eight bytes for a table: live present, version, last; gathered present, version, last, held; half
+unfoldable pub holdingFrom : List ℕ → (at : ℕ) → Holding
+holdingFrom b at =
+    record {
+      live = record { present = byte at b; version = byte (at + 1) b; last = byte (at + 2) b };
+      gathered =
+          record { present = byte (at + 3) b; version = byte (at + 4) b; last = byte (at + 5) b; held = byte (at + 6) b };
+      half = byte (at + 7) b;
+    }
+
+-- two bytes of map number, the lower first, then CDS, MMS, VCM, DCM; a byte that isn't there is 0
+unfoldable pub stateFrom : List ℕ → State
+stateFrom b =
+    record {
+      map = byte 0 b + byte 1 b * 256;
+      cds = holdingFrom b 2;
+      mms = holdingFrom b 10;
+      vcm = holdingFrom b 18;
+      dcm = holdingFrom b 26;
+    }
+
+-- the eight bytes as one number, the first one lowest
+unfoldable pub holdingNumber : Holding → ℕ
+holdingNumber h =
+    h .live .present
+    + h .live .version * 0x100
+    + h .live .last * 0x10000
+    + h .gathered .present * 0x1000000
+    + h .gathered .version * 0x100000000
+    + h .gathered .last * 0x10000000000
+    + h .gathered .held * 0x1000000000000
+    + h .half * 0x100000000000000
+
+-- part 0 is the map number, parts 1 to 4 are the tables; no other part is there
+unfoldable pub statePart : State → (part : ℕ) → ℕ
+statePart s part =
+    cond (eqb part 0) (s .map)
+    (cond (eqb part 1) (holdingNumber (s .cds))
+    (cond (eqb part 2) (holdingNumber (s .mms))
+    (cond (eqb part 3) (holdingNumber (s .vcm))
+    (cond (eqb part 4) (holdingNumber (s .dcm)) 0))))
+
+-- the kind of the answer, and its number times 256
+unfoldable pub answerNumber : Answer → ℕ
+answerNumber (Refused n) = n * 256
+answerNumber OtherMap = 1
+answerNumber Repeat = 2
+answerNumber (Stored missing) = 3 + missing * 256
+answerNumber (Live v) = 4 + v * 256
+
+-- part 5 is the answer
+unfoldable pub offeredPart : Offered → (part : ℕ) → ℕ
+offeredPart o part = cond (eqb part 5) (answerNumber (o .answer)) (statePart (o .state) part)
