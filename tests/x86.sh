@@ -29,13 +29,25 @@ link_x86() {
         "$lib/libgcc.a" "$lib/crtendS.o" "$lib/crtn.o"
 }
 
-# firmware_archive: proves what is not proved yet and writes target/staticlib/libfirmware.a
-firmware_archive() {
+# command_x86 OUT PROGRAM: a command that runs the program with no arguments
+command_x86() {
+    {
+        printf '#!/usr/bin/env bash\n'
+        declare -p toolchain emulator
+        declare -f run_x86
+        printf 'run_x86 %q\n' "$PWD/$2"
+    } >"$1"
+    chmod +x "$1"
+}
+
+# archive CRATE: proves what is not proved yet and writes target/staticlib/libCRATE.a
+archive() {
     local log
-    printf '%s: proving the reader and building libfirmware.a\n' "$0" >&2
-    log=$(rt staticlib firmware 2>&1) || {
+    printf '%s: proving %s and building its archive\n' "$0" "$1" >&2
+    log=$(rt staticlib "$1" 2>&1) || {
         printf '%s\n' "$log" | tail -n 5 >&2
-        printf '%s: rt staticlib firmware failed\n' "$0" >&2
+        printf '%s: rt staticlib %s failed\n' "$0" "$1" >&2
         exit 1
     }
+    mkdir -p target/c
 }

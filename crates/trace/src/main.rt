@@ -97,5 +97,9 @@ fn main() {
     }
     let mut store = [0u8; receiver::STORE];
     let mut buffer = [0u8; LONGEST];
-    follow(receiver::start(map_of(map[0], map[1])), &mut store, &mut buffer);
+    follow(
+        receiver::start(map_of(map[0], map[1])),
+        &mut store,
+        &mut buffer,
+    );
 }

@@ -1,0 +1,115 @@
+/* Offers the sections of many trials to the receiver, in one run (the archive of crates/trials). Standard input, numbers
+   lowest byte first: for each trial a state of 34 bytes, the length of the store (4 bytes) and a seed for its bytes (1), the
+   number of sections (2), and each section with its length (2) in front. Standard output: for each section the kind of the
+   answer, its number and the state after it, and behind a trial's last section the CRC-32 of the whole store. */
+#include <stdint.h>
+#include <stdio.h>
+
+uint64_t trial_start(uint16_t map, uint32_t part);
+uint64_t trial_offer(const uint8_t *state, size_t state_length, uint8_t *store, size_t store_length, const uint8_t *section,
+                     size_t section_length, uint32_t part);
+
+enum { MAP, CDS, DCM = CDS + 3, ANSWER, STATE = 34, HOLDING = 8, MOST_STORE = 65536 };
+
+static uint8_t store[MOST_STORE], other_store[MOST_STORE], section[65535];
+static uint32_t crc_table[256];
+
+static int fail(const char *what) {
+    fprintf(stderr, "trials: %s\n", what);
+    return 1;
+}
+
+static void make_crc_table(void) {
+    for (uint32_t i = 0; i < 256; i++) {
+        uint32_t crc = i;
+        for (int bit = 0; bit < 8; bit++)
+            crc = crc >> 1 ^ (crc & 1 ? 0xEDB88320 : 0);
+        crc_table[i] = crc;
+    }
+}
+
+static uint32_t crc_of_store(size_t length) {
+    uint32_t crc = 0xFFFFFFFF;
+    for (size_t i = 0; i < length; i++)
+        crc = crc >> 8 ^ crc_table[(crc ^ store[i]) & 255];
+    return ~crc;
+}
+
+static uint32_t number(const uint8_t *bytes, int count) {
+    uint32_t n = 0;
+    for (int i = count; i-- > 0;)
+        n = n << 8 | bytes[i];
+    return n;
+}
+
+static void write_number(uint64_t n, int count) {
+    for (int i = 0; i < count; i++)
+        putchar((int)(n >> 8 * i & 255));
+}
+
+/* "Fresh: nothing live, nothing gathered, and the half set to 1", which is the last of a table's eight bytes. */
+static int starts_fresh(void) {
+    for (uint32_t map = 0; map < 65536; map++) {
+        if (trial_start((uint16_t)map, MAP) != map)
+            return 0;
+        for (uint32_t part = CDS; part <= DCM; part++)
+            if (trial_start((uint16_t)map, part) != (uint64_t)1 << 56)
+                return 0;
+    }
+    return 1;
+}
+
+/* The state's parts are asked for on another store, which is changed and not looked at: only its length matters there. */
+static int offer(uint8_t *state, size_t store_length, size_t length) {
+    uint64_t parts[ANSWER];
+    for (uint32_t part = MAP; part <= DCM; part++)
+        parts[part] = trial_offer(state, STATE, other_store, store_length, section, length, part);
+    uint64_t answer = trial_offer(state, STATE, store, store_length, section, length, ANSWER);
+    if (parts[MAP] > 65535 || answer > 65535)
+        return fail("a map number or an answer is above two bytes");
+    for (int i = 0; i < 2; i++)
+        state[i] = (uint8_t)(parts[MAP] >> 8 * i);
+    for (int table = 0; table < 4; table++)
+        for (int i = 0; i < HOLDING; i++)
+            state[2 + HOLDING * table + i] = (uint8_t)(parts[CDS + table] >> 8 * i);
+    write_number(answer, 2);
+    for (int i = 0; i < STATE; i++)
+        putchar(state[i]);
+    return 0;
+}
+
+static int trial(uint8_t *state) {
+    uint8_t head[7], two[2];
+    if (fread(head, 1, sizeof head, stdin) != sizeof head)
+        return fail("the input ends inside a trial");
+    size_t store_length = number(head, 4);
+    if (store_length > MOST_STORE)
+        return fail("a store is longer than 65,536 bytes");
+    for (size_t i = 0; i < store_length; i++)
+        store[i] = (uint8_t)(head[4] + 31 * i + 17 * (i / 256));
+    for (uint32_t left = number(head + 5, 2); left > 0; left--) {
+        if (fread(two, 1, 2, stdin) != 2)
+            return fail("the input ends inside a trial");
+        size_t length = number(two, 2);
+        if (fread(section, 1, length, stdin) != length)
+            return fail("the input ends inside a section");
+        if (offer(state, store_length, length))
+            return 1;
+    }
+    write_number(crc_of_store(store_length), 4);
+    return 0;
+}
+
+int main(void) {
+    uint8_t state[STATE];
+    size_t got;
+    make_crc_table();
+    if (!starts_fresh())
+        return fail("a state at the start is not fresh");
+    while ((got = fread(state, 1, STATE, stdin)) == STATE)
+        if (trial(state))
+            return 1;
+    if (got != 0)
+        return fail("the input ends inside a state");
+    return fflush(stdout) != 0;
+}
