@@ -1,8 +1,10 @@
 // What is held of one table: when it is well formed, and what a section does to it. Steps 2 to 6 of document 01, "Holding and
 // going live". Numbers held are bits: bit n is section n.
+ghost use mathlib.Core.Bool.{not, _&&_};
 ghost use mathlib.Core.Path.{_≡_};
 ghost use Prim.Native.Nat.{_+_, _-_, _<_};
 ghost use lib.Count.{ones};
+ghost use lib.Dec.{eqb};
 ghost use Rattle.rules.specs.Holding.{holds, allOf, isLive, isGathered, liveFormed, gatheredFormed, sameVersion, holdingFormed, otherLast, isRepeat, heldWith, goneLive, gathering, liveOrStored};
 ghost use Rattle.holding.specs.Given.{limit, stepGiven};
 use rules::Answer;
@@ -131,17 +133,21 @@ pub fn is_formed(h: Holding) -> bool
 
 // ---- a section of the table
 
+// Whether a version that is known has another last number than the one offered.
+fn differs(known: bool, last: u8, offered: u8) -> bool
+    ensures { λ x. ⌜ x ≡ (known && not (eqb last offered)) ⌝ }
+{
+    known && last != offered
+}
+
 // Step 3: the version is live, or being gathered, with a different last.
 fn has_other_last(h: Holding, r: Revision) -> bool
     ensures { λ x. ⌜ x ≡ otherLast h r ⌝ }
 {
-    if is_live(h, r.version) {
-        if h.live.last != r.last {
-            return true;
-        }
-        return is_gathered(h, r.version) && h.gathered.last != r.last;
+    if differs(is_live(h, r.version), h.live.last, r.last) {
+        return true;
     }
-    is_gathered(h, r.version) && h.gathered.last != r.last
+    differs(is_gathered(h, r.version), h.gathered.last, r.last)
 }
 
 // Step 4: the version is live, or the number is already held.

@@ -7,8 +7,7 @@ use mathlib.Core.List.{List}
 use lib.ListN.{length}
 use borrow.Author.Tests.{lt-ltb, le-ltb}
 use Rattle.rules.specs.Section.{Content, Reading, wrong, right, withoutCrc, readSection, headOf, readAs}
-use Rattle.rules.specs.Holding.{limitOf, tables, indexOf, storeSize, put, holdingOf, gatheredAt, wellFormed, stepOf, otherMap, stepped, offeredAs, offered, takesIn, putAs, storeAfter, Box, answerTo, boxAfter}
-use Rattle.rules.specs.declared.Table.{Table}
+use Rattle.rules.specs.Holding.{limitOf, tables, storeSize, put, holdingOf, gatheredAt, wellFormed, stepOf, otherMap, stepped, offeredAs, offered, takesIn, putAs, storeAfter, Box, answerTo, boxAfter}
 use Rattle.rules.specs.declared.State.{State}
 use Rattle.rules.specs.declared.Holding.{Holding}
 use Rattle.rules.specs.declared.Revision.{Revision}
@@ -18,14 +17,9 @@ use Rattle.rules.specs.declared.Answer.{Answer}
 use Rattle.rules.specs.declared.Answer.the-variants.{Refused}
 use Rattle.rules.specs.declared.Read.the-variants as Read
 use Rattle.rules.proofs.Right.{one-right, reads-right}
-use Rattle.rules.proofs.Store.{index-lt}
 use Rattle.rules.proofs.Offers.{TakenIn, taken-in}
 use Rattle.holding.specs.Given.{limit, stepGiven}
-use Rattle.receiver.specs.Taking.{forOther, answered}
-
-pub index-small : (t : Table) → indexOf t < 4
-unfolding tables
-index-small = index-lt
+use Rattle.receiver.specs.Taking.{forOther, answered, Passed}
 
 -- the answer of a step of a section that reads right
 step-right : (h : Holding) (r : Revision) → r .number ≤ r .last → stepGiven h r ≡ stepOf limit h r
@@ -37,19 +31,14 @@ unfolding readAs
 refused-as n s (wrong m) e = let k : m ≡ n = cc in rw k
 refused-as n s (right c) e = let z : _≡_ {A = ℕ} 0 1 = cc in absurd (omega arith)
 
--- a section that reads right, and its head
-pub record Told (s : List ℕ) (head : SectionHead) : Type 0 where
-  pub content : Content
-  pub reads : readSection s ≡ right content
-  pub is : head ≡ headOf (withoutCrc s) content
-
-pub told : (s : List ℕ) (head : SectionHead) → Read.Right head ≡ readAs s (readSection s) → Told s head
+-- past checks 1 and 2 and the reader
+pub passed : (s : State) (store section : List ℕ) (head : SectionHead) → 32768 ≤ length store → wellFormed s ≡ true → Read.Right head ≡ readAs section (readSection section) → Passed s store section head
 unfolding readAs
-told s head e = go (readSection s) refl e
+passed s store section head roomy good e = go (readSection section) refl e
   where
-    go : (r : Reading) → readSection s ≡ r → Read.Right head ≡ readAs s r → Told s head
+    go : (r : Reading) → readSection section ≡ r → Read.Right head ≡ readAs section r → Passed s store section head
     go (wrong n) q e = let z : _≡_ {A = ℕ} 0 1 = cc in absurd (omega arith)
-    go (right c) q e = record { content = c; reads = q; is = cc }
+    go (right c) q e = record { roomy = roomy; good = good; content = c; reads = q; is = cc }
 
 module _ (s : State) (store section : List ℕ) where
   -- an answer with its state, and a store, that are the rule's
@@ -68,61 +57,60 @@ module _ (s : State) (store section : List ℕ) where
   unfolding offered storeSize tables limitOf
   short-store lt = kept _ (simp (lt-ltb (length store) 32768 lt)) refl
 
-  module _ (roomy : 32768 ≤ length store) where
-    pub not-formed : wellFormed s ≡ false → Rule (record { answer = Refused 2; state = s }) store
-    unfolding offered storeSize tables limitOf
-    not-formed e = kept _ (simp (le-ltb (length store) 32768 roomy, e)) refl
+  pub not-formed : 32768 ≤ length store → wellFormed s ≡ false → Rule (record { answer = Refused 2; state = s }) store
+  unfolding offered storeSize tables limitOf
+  not-formed roomy e = kept _ (simp (le-ltb (length store) 32768 roomy, e)) refl
 
-    module _ (good : wellFormed s ≡ true) where
-      pub refused : (n : ℕ) → Read.Refused n ≡ readAs section (readSection section) → Rule (record { answer = Refused n; state = s }) store
-      unfolding offered offeredAs storeSize tables limitOf
-      refused n e = kept _ (simp (le-ltb (length store) 32768 roomy, good, refused-as n section (readSection section) e)) refl
+  pub refused : 32768 ≤ length store → wellFormed s ≡ true → (n : ℕ) → Read.Refused n ≡ readAs section (readSection section) → Rule (record { answer = Refused n; state = s }) store
+  unfolding offered offeredAs storeSize tables limitOf
+  refused roomy good n e = kept _ (simp (le-ltb (length store) 32768 roomy, good, refused-as n section (readSection section) e)) refl
 
-      module _ (head : SectionHead) (t : Told section head) where
-        answers : answered s head ≡ offered s (length store) section
-        unfolding answered forOther offered offeredAs otherMap storeSize tables limitOf headOf
-        answers =
-            rw (t .is)
-            (simp (
-              le-ltb (length store) 32768 roomy,
-              good,
-              t .reads,
-              step-right (holdingOf s (t .content .table)) (t .content .revision) (reads-right section (t .content) (t .reads) .made .number),
-            ))
+  module _ (head : SectionHead) (p : Passed s store section head) where
+    answers : answered s head ≡ offered s (length store) section
+    unfolding answered forOther offered offeredAs otherMap storeSize tables limitOf headOf
+    answers =
+        rw (p .is)
+        (simp (
+          le-ltb (length store) 32768 (p .roomy),
+          p .good,
+          p .reads,
+          step-right (holdingOf s (p .content .table)) (p .content .revision) (reads-right section (p .content) (p .reads) .made .number),
+        ))
 
-        pub kept-out : (o : Offered) → o ≡ answered s head → takesIn (o .answer) ≡ false → Rule o store
-        kept-out o e out = kept o (e ∙ answers) out
+    pub kept-out : (o : Offered) → o ≡ answered s head → takesIn (o .answer) ≡ false → Rule o store
+    kept-out o e out = kept o (e ∙ answers) out
 
-        -- the place of a section that is taken in, which is the one that the rule puts it into
-        pub record Place : Type 0 where
-          pub number : head .revision .number < 4
-          pub fits : gatheredAt s (head .table) (head .revision .number) + length section ≤ length store
-          pub put : put store (gatheredAt s (head .table) (head .revision .number)) section ≡ storeAfter s store section
+    -- the place of a section that is taken in, which is the one that the rule puts it into
+    pub record Place : Type 0 where
+      pub number : head .revision .number < 4
+      pub fits : gatheredAt s (head .table) (head .revision .number) + length section ≤ length store
+      pub bytes : put store (gatheredAt s (head .table) (head .revision .number)) section ≡ storeAfter s store section
 
-        taken-place : takesIn (offered s (length store) section .answer) ≡ true → Place
-        unfolding answerTo boxAfter headOf limitOf
-        taken-place took = go (taken-in b section took .0) (taken-in b section took .1)
-          where
-            b : Box
-            b = record { state = s; store = store }
+    taken-place : takesIn (offered s (length store) section .answer) ≡ true → Place
+    unfolding answerTo boxAfter headOf limitOf
+    taken-place took = go (taken-in b section took .0) (taken-in b section took .1)
+      where
+        b : Box
+        b = record { state = s; store = store }
 
-            go : (c : Content) → TakenIn b section c → Place
-            go c k =
-                let same : c ≡ t .content = one-right (sym (k .passed .reads) ∙ t .reads) in
-                let number : head .revision .number ≡ c .revision .number = ap (λ (h : SectionHead). h .revision .number) (t .is) ∙ sym (ap (λ (x : Content). x .revision .number) same) in
-                let at : gatheredAt s (head .table) (head .revision .number) ≡ gatheredAt s (c .table) (c .revision .number) =
-                ap (λ (h : SectionHead). gatheredAt s (h .table) (h .revision .number)) (t .is)
-                ∙ sym (ap (λ (x : Content). gatheredAt s (x .table) (x .revision .number)) same) in
-                let low = k .taking .ready .low in
-                let le = k .taking .ready .sound .number in
-                record {
-                  number = omega arith;
-                  fits = rw at (k .fits);
-                  put = ap (λ (n : ℕ). put store n section) at ∙ sym (k .stored);
-                }
+        go : (c : Content) → TakenIn b section c → Place
+        go c k =
+            let same : c ≡ p .content = one-right (sym (k .passed .reads) ∙ p .reads) in
+            let number : head .revision .number ≡ c .revision .number = ap (λ (h : SectionHead). h .revision .number) (p .is) ∙ sym (ap (λ (x : Content). x .revision .number) same) in
+            let at : gatheredAt s (head .table) (head .revision .number) ≡ gatheredAt s (c .table) (c .revision .number) =
+            ap (λ (h : SectionHead). gatheredAt s (h .table) (h .revision .number)) (p .is)
+            ∙ sym (ap (λ (x : Content). gatheredAt s (x .table) (x .revision .number)) same) in
+            let low = k .taking .ready .low in
+            let le = k .taking .ready .sound .number in
+            record {
+              number = omega arith;
+              fits = rw at (k .fits);
+              bytes = ap (λ (n : ℕ). put store n section) at ∙ sym (k .stored);
+            }
 
-        pub place : (o : Offered) → o ≡ answered s head → takesIn (o .answer) ≡ true → Place
-        place o e took = taken-place (sym (ap (λ (x : Offered). takesIn (x .answer)) (e ∙ answers)) ∙ took)
+    pub place : (o : Offered) → o ≡ answered s head → takesIn (o .answer) ≡ true → Place
+    place o e took = taken-place (sym (ap (λ (x : Offered). takesIn (x .answer)) (e ∙ answers)) ∙ took)
 
-        pub taken : (o : Offered) → o ≡ answered s head → takesIn (o .answer) ≡ true → Rule o (put store (gatheredAt s (head .table) (head .revision .number)) section)
-        taken o e took = record { answer = e ∙ answers; bytes = place o e took .put }
+    pub taken : (o : Offered) (at : ℕ) (after : List ℕ) → o ≡ answered s head → takesIn (o .answer) ≡ true → at ≡ gatheredAt s (head .table) (head .revision .number)
+        → after ≡ put store at section → Rule o after
+    taken o at after e took q w = record { answer = e ∙ answers; bytes = w ∙ ap (λ (n : ℕ). put store n section) q ∙ place o e took .bytes }

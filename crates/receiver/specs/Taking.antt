@@ -1,7 +1,12 @@
 -- The receiver's stage behind the reader: what the box answers to a section that reads right, told by its head.
-use mathlib.Core.Bool.{Bool, cond, not, _&&_}
+use Prim.Native.Nat.{ℕ, _≤_}
+use mathlib.Core.Path.{_≡_}
+use mathlib.Core.Bool.{Bool, true, cond, not, _&&_}
+use mathlib.Core.List.{List}
 use lib.Dec.{eqb}
-use Rattle.rules.specs.Holding.{holdingOf, hasMap, stepped}
+use lib.ListN.{length}
+use Rattle.rules.specs.Section.{Content, right, withoutCrc, readSection, headOf}
+use Rattle.rules.specs.Holding.{holdingOf, hasMap, wellFormed, stepped}
 use Rattle.rules.specs.declared.State.{State}
 use Rattle.rules.specs.declared.SectionHead.{SectionHead}
 use Rattle.rules.specs.declared.Offered.{Offered}
@@ -15,3 +20,11 @@ unfoldable pub answered : State → SectionHead → Offered
 answered s head =
     cond (forOther s head) (record { answer = OtherMap; state = s })
     (stepped s (head .table) (stepGiven (holdingOf s (head .table)) (head .revision)))
+
+-- what the receiver knows where it has come past checks 1 and 2 and the reader
+pub record Passed (s : State) (store section : List ℕ) (head : SectionHead) : Type 0 where
+  pub roomy : 32768 ≤ length store
+  pub good : wellFormed s ≡ true
+  pub content : Content
+  pub reads : readSection section ≡ right content
+  pub is : head ≡ headOf (withoutCrc section) content

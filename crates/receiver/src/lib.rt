@@ -5,7 +5,7 @@ ghost use Prim.Native.Nat.{_+_, _<_, _≤_};
 ghost use lib.ListN.{length};
 ghost use Rattle.rules.specs.Holding.{fresh, wellFormed, indexOf, holdingOf, with, gatheredAt, hasMap, takesIn, offered, storeAfter};
 ghost use Rattle.rules.specs.Holding as rule;
-ghost use Rattle.receiver.specs.Taking.{forOther, answered};
+ghost use Rattle.receiver.specs.Taking.{forOther, answered, Passed};
 use rules::Answer;
 use rules::GatheredVersion;
 use rules::Holding;
@@ -103,6 +103,7 @@ fn with_holding(s: State, t: Table, h: Holding) -> State
 
 fn index_of(t: Table) -> usize
     ensures { λ x. ⌜ x ≡ indexOf t ⌝ }
+    ensures { λ x. ⌜ x < 4 ⌝ }
 {
     match t {
         Table::Cds => 0,
@@ -182,6 +183,23 @@ fn answer_to(s: State, head: SectionHead) -> Offered
     Offered { answer, state }
 }
 
+// A section that reads right, offered to a state and a store that pass checks 1 and 2.
+fn hold(state: State, store: &mut [u8], section: &[u8], head: SectionHead) -> Offered
+    requires { ⌜ Passed state (now store) (now section) head ⌝ }
+    ensures { λ x. ⌜ x ≡ offered state (length (now (store .entry))) (now (section .entry)) ⌝ }
+    ensures { λ _. ⌜ now (store .exit) ≡ storeAfter state (now (store .entry)) (now (section .entry)) ⌝ }
+{
+    let offered = answer_to(state, head);
+    let answer = offered.answer;
+    if takes_in(answer) {
+        let t = head.table;
+        let at = gathered_at(state, t, head.revision.number);
+        put(store, at, section);
+        return offered;
+    }
+    offered
+}
+
 // What the box answers to a section, and its state then. Steps 5 and 6 put the section's bytes at the front of its place; in
 // every other case the store is as it was.
 pub fn offer(state: State, store: &mut [u8], section: &[u8]) -> Offered
@@ -201,17 +219,7 @@ pub fn offer(state: State, store: &mut [u8], section: &[u8]) -> Offered
                 answer: Answer::Refused(n),
                 state,
             },
-            Read::Right(head) => {
-                let offered = answer_to(state, head);
-                let answer = offered.answer;
-                if takes_in(answer) {
-                    let t = head.table;
-                    let at = gathered_at(state, t, head.revision.number);
-                    put(store, at, section);
-                    return offered;
-                }
-                offered
-            }
+            Read::Right(head) => hold(state, store, section, head),
         }
     } else {
         Offered {

@@ -1,59 +1,31 @@
+-- One arm for each part.
 use borrow.Author.Tests.{ne-eqb}
 use Rattle.trials.specs.Coded.{statePart}
 use native.Mathlib.Omega.{arith}
 use borrow.Author.Needs.{needs}
 use Rattle.trials.proofs.state_part.Statement.{statement}
 use Rattle.trials.proofs.state_part.Tie as tie
-use Rattle.trials.proofs.state_part.Reads as reads
-use Rattle.trials.proofs.state_part.Lts as lts
-use Rattle.trials.proofs.holding_number.Reads as holding-number-reads
 
--- src/lib.rt:67:14
-cast-result : tie.Need-cast-result
-cast-result c = search needs
-
--- src/lib.rt:68:14
-holding-number-requires : tie.Need-holding-number-requires
-holding-number-requires c κs = search needs
-
--- src/lib.rt:69:14
-holding-number-requires-2 : tie.Need-holding-number-requires-2
-holding-number-requires-2 c κs = search needs
-
--- src/lib.rt:70:14
-holding-number-requires-3 : tie.Need-holding-number-requires-3
-holding-number-requires-3 c κs = search needs
-
--- src/lib.rt:71:14
-holding-number-requires-4 : tie.Need-holding-number-requires-4
-holding-number-requires-4 c κs = search needs
-
--- src/lib.rt:63:1
 returns : tie.Need-returns
 unfolding statePart
 returns c = simp (c .before .match .keys1)
 
--- src/lib.rt:63:1
 returns-2 : tie.Need-returns-2
 unfolding statePart
 returns-2 c = simp (c .before .match .keys2, c .holding-number .ensures)
 
--- src/lib.rt:63:1
 returns-3 : tie.Need-returns-3
 unfolding statePart
 returns-3 c = simp (c .before .match .keys3, c .holding-number2 .ensures)
 
--- src/lib.rt:63:1
 returns-4 : tie.Need-returns-4
 unfolding statePart
 returns-4 c = simp (c .before .match .keys4, c .holding-number3 .ensures)
 
--- src/lib.rt:63:1
 returns-5 : tie.Need-returns-5
 unfolding statePart
 returns-5 c = simp (c .before .match .keys5, c .holding-number4 .ensures)
 
--- src/lib.rt:63:1
 returns-6 : tie.Need-returns-6
 unfolding statePart
 returns-6 c = let p = c .before .args .part in simp (ne-eqb p 0 (omega arith), ne-eqb p 1 (omega arith), ne-eqb p 2 (omega arith), ne-eqb p 3 (omega arith), ne-eqb p 4 (omega arith))
@@ -62,11 +34,11 @@ pub state-part-spec : {M : Type 1} → statement M
 state-part-spec =
     tie.close
     (tie.spec
-    cast-result
-    holding-number-requires
-    holding-number-requires-2
-    holding-number-requires-3
-    holding-number-requires-4
+    (λ c. search needs)
+    (λ c κs. search needs)
+    (λ c κs. search needs)
+    (λ c κs. search needs)
+    (λ c κs. search needs)
     returns
     returns-2
     returns-3
