@@ -2,18 +2,17 @@
 use Prim.Native.Nat.{ℕ, _+_, _<_, _≤_}
 use native.Mathlib.Omega.{arith}
 use mathlib.Core.Path.{_≡_, refl, sym, ap, _∙_}
-use mathlib.Core.Bool.{Bool, true, false}
+use mathlib.Core.Bool.{true, false}
 use mathlib.Core.List.{List}
 use lib.ListN.{length}
 use borrow.Author.Tests.{lt-ltb, le-ltb}
-use Rattle.rules.specs.Section.{Content, Reading, wrong, right, withoutCrc, readSection, headOf, readAs}
-use Rattle.rules.specs.Holding.{limitOf, tables, storeSize, put, holdingOf, gatheredAt, wellFormed, stepOf, otherMap, stepped, offeredAs, offered, takesIn, putAs, storeAfter, Box, answerTo, boxAfter}
+use Rattle.rules.specs.Section.{Content, Reading, wrong, right, readSection, headOf, readAs}
+use Rattle.rules.specs.Holding.{limitOf, tables, storeSize, put, holdingOf, gatheredAt, wellFormed, stepOf, otherMap, offeredAs, offered, takesIn, storeAfter, Box, answerTo, boxAfter}
 use Rattle.rules.specs.declared.State.{State}
 use Rattle.rules.specs.declared.Holding.{Holding}
 use Rattle.rules.specs.declared.Revision.{Revision}
 use Rattle.rules.specs.declared.SectionHead.{SectionHead}
 use Rattle.rules.specs.declared.Offered.{Offered}
-use Rattle.rules.specs.declared.Answer.{Answer}
 use Rattle.rules.specs.declared.Answer.the-variants.{Refused}
 use Rattle.rules.specs.declared.Read.the-variants as Read
 use Rattle.rules.proofs.Right.{one-right, reads-right}

@@ -3,7 +3,7 @@
 ghost use mathlib.Core.Path.{_≡_};
 ghost use Prim.Native.Nat.{_+_, _<_, _≤_};
 ghost use lib.ListN.{length};
-ghost use Rattle.rules.specs.Holding.{fresh, wellFormed, indexOf, holdingOf, with, gatheredAt, hasMap, takesIn, offered, storeAfter};
+ghost use Rattle.rules.specs.Holding.{fresh, wellFormed, indexOf, holdingOf, with, gatheredAt, takesIn, offered, storeAfter};
 ghost use Rattle.rules.specs.Holding as rule;
 ghost use Rattle.receiver.specs.Taking.{forOther, answered, Passed};
 use rules::Answer;

@@ -20,7 +20,7 @@ use Rattle.rules.specs.declared.Revision.{Revision}
 use Rattle.rules.proofs.Taken.{both-left, both-right}
 use Rattle.rules.proofs.Right.{one-right, not-right}
 use Rattle.rules.proofs.Held.{all-held}
-use Rattle.rules.proofs.Steps.{differ, held-lt, gathered-last, live-last, Sound, Ready, After, step-after}
+use Rattle.rules.proofs.Steps.{differ, held-lt, gathered-last, live-last, Sound, After, step-after}
 use Rattle.rules.proofs.Offers.{same-table, table-formed, Passed, passed-sound, offer-cases, NotOf, step-holds, untouched, map-kept, limit-kept, formed-kept, others-kept, length-kept}
 
 -- checks 1 and 2 pass

@@ -5,7 +5,7 @@ use native.Mathlib.Nat.{div-self, pow-suc}
 use native.Mathlib.Numerals.{add-one, one-add}
 use mathlib.Core.Path.{_≡_, refl, sym, ap, _∙_}
 use mathlib.Core.Bool.{Bool, true, false}
-use lib.Dec.{ltb, eqb}
+use lib.Dec.{ltb}
 use lib.Pow.{pow-pos, shr-shr, ones-lt}
 use lib.Bits.{bitOr, or-shr, or-mod, or-add-and, and-le-l}
 use lib.Count.{ones, ones-step, ones-le}

@@ -3,13 +3,13 @@
 use Prim.Native.Nat.{ℕ, _+_, _-_, _^_, _<_, _≤_}
 use native.Mathlib.Omega.{arith}
 use mathlib.Core.Path.{_≡_, refl, sym, ap, _∙_}
-use mathlib.Core.Bool.{Bool, true, false, cond, not, _&&_, _||_}
+use mathlib.Core.Bool.{Bool, true, false, not, _&&_, _||_}
 use lib.Dec.{leb, ltb, eqb}
-use lib.Bits.{bitOr, or-lt}
+use lib.Bits.{or-lt}
 use lib.Pow.{pow-pos, pow-lt}
 use lib.Count.{ones}
 use borrow.Author.Tests.{leb-true, leb-false, ltb-true, eqb-true, eqb-false, not-true, not-false, eq-eqb, le-leb, lt-leb, lt-ltb}
-use Rattle.rules.specs.Holding.{noneLive, noneGathered, holds, allOf, isLive, isGathered, liveFormed, gatheredFormed, sameVersion, holdingFormed, otherLast, isRepeat, heldWith, goneLive, gathering, liveOrStored, stepOf, takesIn}
+use Rattle.rules.specs.Holding.{noneGathered, holds, allOf, isLive, isGathered, liveFormed, gatheredFormed, sameVersion, holdingFormed, otherLast, isRepeat, heldWith, goneLive, gathering, liveOrStored, stepOf, takesIn}
 use Rattle.rules.specs.declared.Holding.{Holding}
 use Rattle.rules.specs.declared.Revision.{Revision}
 use Rattle.rules.specs.declared.Stepped.{Stepped}
@@ -17,9 +17,6 @@ use Rattle.rules.specs.declared.Answer.{Answer}
 use Rattle.rules.specs.declared.Answer.the-variants.{Refused, OtherMap, Repeat, Stored, Live}
 use Rattle.rules.proofs.Taken.{both-left, both-right}
 use Rattle.rules.proofs.Held.{holds-kept, holds-one, holds-new, all-lt, all-held, holds-all, joined-some, few-held, not-all}
-
-pub both : (a b : Bool) → a ≡ true → b ≡ true → (a && b) ≡ true
-both a b e f = rw (e, f) refl
 
 pub neither-left : (a b : Bool) → (a || b) ≡ false → a ≡ false
 neither-left true b e = e
@@ -207,14 +204,6 @@ module _ (h : Holding) (r : Revision) where
   -- ---- gathered further
 
   module _ (held : ℕ) where
-    more-live : isLive (gathering h r held) (r .version) ≡ isLive h (r .version)
-    unfolding isLive gathering
-    more-live = refl
-
-    more-gathered : isGathered (gathering h r held) (r .version) ≡ true
-    unfolding isGathered gathering
-    more-gathered = same (r .version)
-
     more-formed : (limit : ℕ) → Ready limit → isLive h (r .version) ≡ false → 0 < held → held < allOf (r .last) → Formed limit (gathering h r held)
     unfolding gathering gatheredFormed sameVersion isLive
     more-formed limit y l some few =
@@ -248,7 +237,7 @@ module _ (h : Holding) (r : Revision) where
   pub record WentLive (v : ℕ) (u : Holding) : Type 0 where
     pub version : v ≡ r .version
     pub new : isLive h (r .version) ≡ false
-    pub complete : heldWith h r ≡ allOf (r .last)
+    pub complete : (k : ℕ) → k ≤ r .last → holds (heldWith h r) k ≡ true
     pub holding : u ≡ goneLive h r
 
   pub went-changes : (v : ℕ) (u : Holding) → WentLive v u → u .live ≡ h .live → ⊥
@@ -351,7 +340,7 @@ module _ (h : Holding) (r : Revision) where
         step-cases limit (λ x. x .answer ≡ Live v → WentLive v (x .holding)) f
         (λ a no e. absurd (differ (sym (ap takesIn e) ∙ no)))
         (λ t. taken-cases limit (λ x. x .answer ≡ Live v → WentLive v (x .holding)) t
-        (λ all e. record { version = live-of e; new = not-live (t .new); complete = all; holding = refl })
+        (λ all e. record { version = live-of e; new = not-live (t .new); complete = λ k le. ap (λ (held : ℕ). holds held k) all ∙ holds-all (r .last) k le; holding = refl })
         (λ few e. absurd (differ (sym (ap goesLive e)))))
 
     pub step-stored : (missing : ℕ) → stepOf limit h r .answer ≡ Stored missing → Joined missing (stepOf limit h r .holding)
