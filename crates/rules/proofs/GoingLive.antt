@@ -33,7 +33,7 @@ checked-kept b section k =
     record { roomy = rw (limit-kept b section, length-kept b section) (k .roomy); good = formed-kept b section (k .good) }
 
 -- the map number alone tells which sections are for another map
-map-by : (s u : State) (c : Content) → s .map ≡ u .map → otherMap s c ≡ otherMap u c
+pub map-by : (s u : State) (c : Content) → s .map ≡ u .map → otherMap s c ≡ otherMap u c
 unfolding otherMap
 map-by s u c e = rw e refl
 

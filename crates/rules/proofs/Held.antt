@@ -1,15 +1,15 @@
 -- The numbers held, as the ones of a number: what joining does, when all of 0 to last are held, and how many are.
 use Prim.Native.Nat.{ℕ, zero, suc, _+_, _-_, _*_, _/_, _%_, _^_, _<_, _≤_}
 use native.Mathlib.Omega.{arith}
-use native.Mathlib.Nat.{div-self, pow-suc}
+use native.Mathlib.Nat.{div-self, div-eq-of-lt, lt-of-lt-of-le, pow-suc}
 use native.Mathlib.Numerals.{add-one, one-add}
 use mathlib.Core.Path.{_≡_, refl, sym, ap, _∙_}
 use mathlib.Core.Bool.{Bool, true, false}
 use lib.Dec.{ltb}
-use lib.Pow.{pow-pos, shr-shr, ones-lt}
-use lib.Bits.{bitOr, or-shr, or-mod, or-add-and, and-le-l}
+use lib.Pow.{pow-pos, pow-mono, shr-shr, shr-le, ones-lt}
+use lib.Bits.{bitOr, or-zero-r, or-shr, or-mod, or-add-and, and-le-l}
 use lib.Count.{ones, ones-step, ones-le}
-use borrow.Author.Tests.{ltb-true, ltb-false, eqb-true, eq-eqb}
+use borrow.Author.Tests.{ltb-true, ltb-false, eqb-true, eqb-false, eq-eqb, ne-eqb}
 use Rattle.rules.specs.Holding.{holds, allOf}
 
 -- of two digits, one of which is 1
@@ -46,6 +46,26 @@ holds-half : (h k : ℕ) → holds h (suc k) ≡ holds (h / 2) k
 unfolding holds
 holds-half h k = rw (shr-shr h 1 k, one-add k) refl
 
+even : (p : ℕ) → holds (p * 2) 0 ≡ false
+unfolding holds
+even p = ne-eqb (p * 2 / 1 % 2) 1 (λ e. omega (arith, e))
+
+none-held : (k : ℕ) → holds 0 k ≡ false
+unfolding holds
+none-held k = ne-eqb (0 / 2 ^ k % 2) 1 (λ e. omega (arith, e, shr-le 0 k))
+
+-- a number alone holds no other
+alone : (n k : ℕ) → (k ≡ n → ⊥) → holds (2 ^ n) k ≡ false
+alone zero zero ne = absurd (ne refl)
+alone zero (suc k) ne = holds-half 1 k ∙ none-held k
+alone (suc n) zero ne = even-first (2 ^ n) (pow-suc 2 n)
+  where
+    even-first : (p : ℕ) → 2 ^ suc n ≡ p * 2 → holds (2 ^ suc n) 0 ≡ false
+    even-first p e = rw e (even p)
+alone (suc n) (suc k) ne =
+    let half : 2 ^ suc n / 2 ≡ 2 ^ n = omega (arith, pow-suc 2 n) in
+    holds-half (2 ^ suc n) k ∙ ap (λ (x : ℕ). holds x k) half ∙ alone n k (λ e. ne (ap suc e))
+
 double : (last : ℕ) → 2 ^ (suc last + 1) ≡ 2 ^ (last + 1) * 2
 double last = ap (λ (k : ℕ). 2 ^ k) (add-one (suc last) ∙ ap suc (sym (add-one last))) ∙ pow-suc 2 (last + 1)
 
@@ -78,6 +98,28 @@ holds-all zero (suc k) le = absurd (omega arith)
 holds-all (suc last) (suc k) le =
     let half : (2 ^ (suc last + 1) - 1) / 2 ≡ 2 ^ (last + 1) - 1 = omega (arith, double last, pow-pos (last + 1)) in
     holds-half (2 ^ (suc last + 1) - 1) k ∙ ap (λ (x : ℕ). holds x k) half ∙ holds-all last k (omega arith)
+
+-- a section that joins changes nothing for the others
+pub holds-other : (h n k : ℕ) → (k ≡ n → ⊥) → holds (bitOr h (2 ^ n)) k ≡ true → holds h k ≡ true
+unfolding holds
+holds-other h n k ne e =
+    let none : 2 ^ n / 2 ^ k % 2 ≡ 0 = omega (arith, eqb-false (2 ^ n / 2 ^ k % 2) 1 (alone n k ne)) in
+    let one : bitOr (h / 2 ^ k % 2) 0 ≡ 1 = sym (digit h (2 ^ n) k ∙ ap (bitOr (h / 2 ^ k % 2)) none) ∙ eqb-true (bitOr h (2 ^ n) / 2 ^ k % 2) 1 e in
+    eq-eqb (h / 2 ^ k % 2) 1 (sym (or-zero-r (h / 2 ^ k % 2)) ∙ one)
+
+pub not-alone : (n k : ℕ) → (k ≡ n → ⊥) → holds (2 ^ n) k ≡ true → ⊥
+not-alone n k ne e = let z : true ≡ false = sym e ∙ alone n k ne in let y : _≡_ {A = ℕ} 0 1 = cc in omega arith
+
+-- of a number below 2 ^ m only bits below m are held
+pub held-below : (m h k : ℕ) → h < 2 ^ m → holds h k ≡ true → k < m
+unfolding holds
+held-below m h k lt e = go (ltb k m) refl
+  where
+    go : (b : Bool) → ltb k m ≡ b → k < m
+    go true q = ltb-true k m q
+    go false q =
+        let none : h / 2 ^ k ≡ 0 = div-eq-of-lt (lt-of-lt-of-le lt (pow-mono (ltb-false k m q))) in
+        absurd (omega (arith, none, eqb-true (h / 2 ^ k % 2) 1 e))
 
 -- a union is not empty
 pub joined-some : (h n : ℕ) → 0 < bitOr h (2 ^ n)

@@ -11,4 +11,5 @@ pub mod Steps
 pub mod Store
 pub mod Offers
 pub mod GoingLive
+pub mod Faithful
 pub mod Asking

@@ -67,19 +67,20 @@ pub fitting-long : (s : List ℕ) → fitting s ≡ true → 8 ≤ length s
 unfolding fitting
 fitting-long s f = leb-true 8 (length s) (both-left _ (eqb (length s) (3 + lengthOf s)) (both-left _ (leb (lengthOf s) 1021) f))
 
+fitting-whole : (s : List ℕ) → fitting s ≡ true → length s ≡ 3 + lengthOf s
+unfolding fitting
+fitting-whole s f = eqb-true (length s) (3 + lengthOf s) (both-right (leb 8 (length s)) _ (both-left _ (leb (lengthOf s) 1021) f))
+
 -- "a section is at most 1,024 bytes"
 fitting-short : (s : List ℕ) → fitting s ≡ true → length s ≤ 1024
 unfolding fitting
 fitting-short s f =
-    omega (
-      arith,
-      leb-true (lengthOf s) 1021 (both-right (leb 8 (length s) && eqb (length s) (3 + lengthOf s)) _ f),
-      eqb-true (length s) (3 + lengthOf s) (both-right (leb 8 (length s)) _ (both-left _ (leb (lengthOf s) 1021) f)),
-    )
+    omega (arith, leb-true (lengthOf s) 1021 (both-right (leb 8 (length s) && eqb (length s) (3 + lengthOf s)) _ f), fitting-whole s f)
 
 -- a section that reads right
 pub record Right (s : List ℕ) (c : Content) : Type 0 where
   pub long : 8 ≤ length s
+  pub whole : length s ≡ 3 + lengthOf s
   pub short : length s ≤ 1024
   pub made : Made (withoutCrc s) c
 
@@ -91,7 +92,7 @@ reads-right s c e =
     let four = unless-got _ _ _ _ _ (three .1) in
     let five = unless-got _ _ _ _ _ (four .1) in
     let six = unless-got _ _ _ _ _ (five .1) in
-    record { long = fitting-long s (three .0); short = fitting-short s (three .0); made = made (withoutCrc s) c (g .0) (six .1) }
+    record { long = fitting-long s (three .0); whole = fitting-whole s (three .0); short = fitting-short s (three .0); made = made (withoutCrc s) c (g .0) (six .1) }
 
 -- its closing list stands where the head says
 pub closing-place : (bs : List ℕ) (c : Content) → Made bs c → (end : List ℕ) × (closing (from bs (closingAt bs (c .closing))) ≡ got (c .closing) end)

@@ -16,7 +16,7 @@ use Rattle.rules.specs.declared.Stepped.{Stepped}
 use Rattle.rules.specs.declared.Answer.{Answer}
 use Rattle.rules.specs.declared.Answer.the-variants.{Refused, OtherMap, Repeat, Stored, Live}
 use Rattle.rules.proofs.Taken.{both-left, both-right}
-use Rattle.rules.proofs.Held.{holds-kept, holds-one, holds-new, all-lt, all-held, holds-all, joined-some, few-held, not-all}
+use Rattle.rules.proofs.Held.{holds-kept, holds-one, holds-new, all-lt, all-held, holds-all, holds-other, not-alone, joined-some, few-held, not-all}
 
 pub neither-left : (a b : Bool) → (a || b) ≡ false → a ≡ false
 neither-left true b e = e
@@ -79,12 +79,20 @@ module _ (limit : ℕ) (h : Holding) where
   forms f = simp (le-leb (h .half) 1 (omega (arith, f .half)), f .live, f .gathered, f .apart)
 
   -- fewer than all of the gathered version are held
+  pub gathered-clauses : holdingFormed limit h ≡ true → h .gathered .present ≡ 1 → (h .gathered .last < limit) × (h .gathered .held < allOf (h .gathered .last))
+  unfolding gatheredFormed
+  gathered-clauses e there =
+      let all : (leb (h .gathered .version) 31 && ltb (h .gathered .last) limit && ltb 0 (h .gathered .held) && ltb (h .gathered .held) (allOf (h .gathered .last))) ≡ true =
+      simp (eq-eqb (h .gathered .present) 1 there) at (formed e .gathered) in
+      let three = both-left (leb (h .gathered .version) 31 && ltb (h .gathered .last) limit && ltb 0 (h .gathered .held)) _ all in
+      let two = both-left (leb (h .gathered .version) 31 && ltb (h .gathered .last) limit) _ three in (
+        ltb-true (h .gathered .last) limit (both-right (leb (h .gathered .version) 31) _ two),
+        ltb-true (h .gathered .held) (allOf (h .gathered .last)) (both-right (leb (h .gathered .version) 31 && ltb (h .gathered .last) limit && ltb 0 (h .gathered .held)) _ all),
+      )
+
   pub held-lt : holdingFormed limit h ≡ true → (v : ℕ) → isGathered h v ≡ true → h .gathered .held < allOf (h .gathered .last)
-  unfolding gatheredFormed isGathered
-  held-lt e v g =
-      let there = both-left (eqb (h .gathered .present) 1) _ g in
-      ltb-true (h .gathered .held) (allOf (h .gathered .last))
-      (both-right (leb (h .gathered .version) 31 && ltb (h .gathered .last) limit && ltb 0 (h .gathered .held)) _ (simp there at (formed e .gathered)))
+  unfolding isGathered
+  held-lt e v g = gathered-clauses e (eqb-true (h .gathered .present) 1 (both-left (eqb (h .gathered .present) 1) _ g)) .1
 
 live-by : (u h : Holding) (v : ℕ) → u .live ≡ h .live → isLive u v ≡ isLive h v
 unfolding isLive
@@ -121,6 +129,15 @@ module _ (h : Holding) (r : Revision) where
       go : (b : Bool) → isGathered h (r .version) ≡ b → holds (heldWith h r) (r .number) ≡ true
       go true e = simp e (holds-new (h .gathered .held) (r .number))
       go false e = simp e (holds-one (r .number))
+
+  -- any other number was held before, of the same version
+  pub held-before : (k : ℕ) → (k ≡ r .number → ⊥) → holds (heldWith h r) k ≡ true → (isGathered h (r .version) ≡ true) × (holds (h .gathered .held) k ≡ true)
+  unfolding heldWith
+  held-before k ne e = go (isGathered h (r .version)) refl
+    where
+      go : (b : Bool) → isGathered h (r .version) ≡ b → (isGathered h (r .version) ≡ true) × (holds (h .gathered .held) k ≡ true)
+      go true q = (q, holds-other (h .gathered .held) (r .number) k ne (simp q at e))
+      go false q = absurd (not-alone (r .number) k ne (simp q at e))
 
   held-some : 0 < heldWith h r
   unfolding heldWith

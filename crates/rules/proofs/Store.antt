@@ -1,6 +1,6 @@
 -- The store: what putting a section's bytes changes and what not; and that the places, for every limit of sections, lie in
 -- it and apart from each other.
-use Prim.Native.Nat.{ℕ, zero, suc, _+_, _-_, _*_, _<_, _≤_}
+use Prim.Native.Nat.{ℕ, zero, suc, _+_, _-_, _*_, _%_, _<_, _≤_}
 use native.Mathlib.Omega.{arith}
 use native.Mathlib.Nat.{mul-le-mul-right, suc-mul}
 use mathlib.Core.Path.{_≡_, refl, sym, ap, _∙_}
@@ -9,10 +9,11 @@ use mathlib.Core.Bool.{Bool, true, false}
 use mathlib.Core.List.{List, _++_}
 use lib.Dec.{ltb, lit<}
 use lib.ListN.{length, take, drop, getD, length-append, length-take, length-drop, List·getD-append}
-use lib.Seq.{length-take-le, getD-append-add, getD-drop, getD-take, ext-getD}
+use lib.Seq.{length-take-le, take-take, getD-append-add, getD-drop, getD-take, ext-getD}
 use borrow.Author.Tests.{ltb-true, ltb-false}
-use Rattle.rules.specs.Bytes.{from}
-use Rattle.rules.specs.Holding.{tables, indexOf, placeOf, storeSize, put}
+use Rattle.rules.specs.Bytes.{byte, from}
+use Rattle.rules.specs.Section.{lengthOf}
+use Rattle.rules.specs.Holding.{tables, indexOf, placeOf, storeSize, sectionAt, put}
 use Rattle.rules.specs.declared.Table.{Table}
 use Rattle.rules.specs.declared.Table.the-variants.{Cds, Mms, Vcm, Dcm}
 
@@ -86,6 +87,25 @@ module _ (d : List ℕ) (at : ℕ) (s : List ℕ) (fits : at + length s ≤ leng
       bytes i lt =
           let within : i < length s = omega (arith, size) in
           getD-take (length s) (drop at (put d at s)) i 0 within ∙ getD-drop at (put d at s) i 0 ∙ put-within i within
+
+-- ---- the section in a place
+
+-- it is told by the 1,024 bytes of the place
+pub same-section : (d e : List ℕ) (at : ℕ) → take 1024 (from d at) ≡ take 1024 (from e at) → sectionAt d at ≡ sectionAt e at
+unfolding sectionAt
+same-section d e at q = ap (λ (place : List ℕ). take (3 + lengthOf place) place) q
+
+-- what was put there is read there: its own length says where it ends
+pub section-there : (d : List ℕ) (at : ℕ) (s : List ℕ) → at + length s ≤ length d → 3 ≤ length s → length s ≤ 1024 → length s ≡ 3 + lengthOf s → sectionAt (put d at s) at ≡ s
+unfolding sectionAt lengthOf byte
+section-there d at s fits long short whole =
+    let place : List ℕ = take 1024 (from (put d at s) at) in
+    let front : take (length s) place ≡ s = take-take (length s) 1024 (from (put d at s) at) short ∙ put-there d at s fits in
+    let byte-of : (j : ℕ) → j < length s → getD place j 0 ≡ getD s j 0 =
+    λ j lt. sym (getD-take (length s) place j 0 lt) ∙ ap (λ (l : List ℕ). getD l j 0) front in
+    let size : 3 + (getD place 1 0 % 16 * 256 + getD place 2 0) ≡ length s =
+    rw (byte-of 1 (omega arith), byte-of 2 (omega arith)) (sym whole) in
+    ap (λ (n : ℕ). take n place) size ∙ front
 
 -- ---- tables by their index
 
