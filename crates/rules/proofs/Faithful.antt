@@ -11,7 +11,6 @@ use borrow.Author.Tests.{ltb-true, eqb-true, eqb-false, eq-eqb}
 use Rattle.rules.specs.Section.{Content, right}
 use Rattle.rules.specs.Holding.{limitOf, indexOf, placeOf, sectionAt, holdingOf, liveAt, gatheredAt, noneLive, noneGathered, freshHolding, fresh, holds, isGathered, liveFormed, holdingFormed, heldWith, goneLive, gathering, stepOf, otherMap, takesIn, Box, answerTo, boxAfter, run}
 use Rattle.rules.specs.Tuning.{tableLive, liveCount, liveReading, readsAs, every, placeReads, tableReads}
-use Rattle.rules.specs.Lineup.{freshBox}
 use Rattle.rules.specs.declared.Table.{Table}
 use Rattle.rules.specs.declared.Table.the-variants.{Cds, Mms, Vcm, Dcm}
 use Rattle.rules.specs.declared.Holding.{Holding}
@@ -212,9 +211,9 @@ module _ (start : State) (b : Box) (f : FaithfulBox start b) (t : Table) where
       every-so (holdingOf (b .state) t .live .last + 1) (placeReads (b .state) (b .store) t)
       (λ n lt. place-reads n (f .tables t .live (eqb-true (holdingOf (b .state) t .live .present) 1 e) n (omega arith)))
 
--- whatever is offered to a fresh box, the live tables read as what they are
-pub run-reads : (map : ℕ) (sections : List (List ℕ)) (t : Table) → tableLive (run (freshBox map) sections .state) t ≡ true
-    → tableReads (run (freshBox map) sections .state) (run (freshBox map) sections .store) t ≡ true
-unfolding freshBox
-run-reads map sections t =
-    table-reads (fresh map) (run (freshBox map) sections) (faithful-run (fresh map) sections (freshBox map) (faithful-fresh map (freshBox map .store))) t
+-- whatever stood in the store and whatever is offered to a fresh box, the live tables read as what they are
+pub run-reads : (map : ℕ) (store : List ℕ) (sections : List (List ℕ)) (t : Table) → tableLive (run (record { state = fresh map; store = store }) sections .state) t ≡ true
+    → tableReads (run (record { state = fresh map; store = store }) sections .state) (run (record { state = fresh map; store = store }) sections .store) t ≡ true
+run-reads map store sections t =
+    table-reads (fresh map) (run (record { state = fresh map; store = store }) sections)
+    (faithful-run (fresh map) sections (record { state = fresh map; store = store }) (faithful-fresh map store)) t
