@@ -18,7 +18,7 @@ use Rattle.rules.specs.declared.Read.the-variants as Read
 use Rattle.rules.proofs.Right.{one-right, reads-right}
 use Rattle.rules.proofs.Offers.{TakenIn, taken-in}
 use Rattle.holding.specs.Given.{limit, stepGiven}
-use Rattle.receiver.specs.Taking.{forOther, answered, Passed}
+use Rattle.receiver.specs.Taking.{allPlaces, forOther, answered, Passed}
 
 -- the answer of a step of a section that reads right
 step-right : (h : Holding) (r : Revision) → r .number ≤ r .last → stepGiven h r ≡ stepOf limit h r
@@ -31,7 +31,7 @@ refused-as n s (wrong m) e = let k : m ≡ n = cc in rw k
 refused-as n s (right c) e = let z : _≡_ {A = ℕ} 0 1 = cc in absurd (omega arith)
 
 -- past checks 1 and 2 and the reader
-pub passed : (s : State) (store section : List ℕ) (head : SectionHead) → 32768 ≤ length store → wellFormed s ≡ true → Read.Right head ≡ readAs section (readSection section) → Passed s store section head
+pub passed : (s : State) (store section : List ℕ) (head : SectionHead) → allPlaces ≤ length store → wellFormed s ≡ true → Read.Right head ≡ readAs section (readSection section) → Passed s store section head
 unfolding readAs
 passed s store section head roomy good e = go (readSection section) refl e
   where
@@ -52,17 +52,17 @@ module _ (s : State) (store section : List ℕ) where
       let e′ : takesIn (offered s (length store) section .answer) ≡ false = sym (ap (λ (x : Offered). takesIn (x .answer)) e) ∙ out in
       record { answer = e; bytes = simp e′ }
 
-  pub short-store : length store < 32768 → Rule (record { answer = Refused 1; state = s }) store
+  pub short-store : length store < allPlaces → Rule (record { answer = Refused 1; state = s }) store
   unfolding offered storeSize tables limitOf
-  short-store lt = kept _ (simp (lt-ltb (length store) 32768 lt)) refl
+  short-store lt = kept _ (simp (lt-ltb (length store) allPlaces lt)) refl
 
-  pub not-formed : 32768 ≤ length store → wellFormed s ≡ false → Rule (record { answer = Refused 2; state = s }) store
+  pub not-formed : allPlaces ≤ length store → wellFormed s ≡ false → Rule (record { answer = Refused 2; state = s }) store
   unfolding offered storeSize tables limitOf
-  not-formed roomy e = kept _ (simp (le-ltb (length store) 32768 roomy, e)) refl
+  not-formed roomy e = kept _ (simp (le-ltb (length store) allPlaces roomy, e)) refl
 
-  pub refused : 32768 ≤ length store → wellFormed s ≡ true → (n : ℕ) → Read.Refused n ≡ readAs section (readSection section) → Rule (record { answer = Refused n; state = s }) store
+  pub refused : allPlaces ≤ length store → wellFormed s ≡ true → (n : ℕ) → Read.Refused n ≡ readAs section (readSection section) → Rule (record { answer = Refused n; state = s }) store
   unfolding offered offeredAs storeSize tables limitOf
-  refused roomy good n e = kept _ (simp (le-ltb (length store) 32768 roomy, good, refused-as n section (readSection section) e)) refl
+  refused roomy good n e = kept _ (simp (le-ltb (length store) allPlaces roomy, good, refused-as n section (readSection section) e)) refl
 
   module _ (head : SectionHead) (p : Passed s store section head) where
     answers : answered s head ≡ offered s (length store) section
@@ -70,7 +70,7 @@ module _ (s : State) (store section : List ℕ) where
     answers =
         rw (p .is)
         (simp (
-          le-ltb (length store) 32768 (p .roomy),
+          le-ltb (length store) allPlaces (p .roomy),
           p .good,
           p .reads,
           step-right (holdingOf s (p .content .table)) (p .content .revision) (reads-right section (p .content) (p .reads) .made .number),
@@ -81,7 +81,7 @@ module _ (s : State) (store section : List ℕ) where
 
     -- the place of a section that is taken in, which is the one that the rule puts it into
     pub record Place : Type 0 where
-      pub number : head .revision .number < 4
+      pub number : head .revision .number < limit
       pub fits : gatheredAt s (head .table) (head .revision .number) + length section ≤ length store
       pub bytes : put store (gatheredAt s (head .table) (head .revision .number)) section ≡ storeAfter s store section
 

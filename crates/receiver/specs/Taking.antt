@@ -21,9 +21,13 @@ answered s head =
     cond (forOther s head) (record { answer = OtherMap; state = s })
     (stepped s (head .table) (stepGiven (holdingOf s (head .table)) (head .revision)))
 
+-- refusal 1: bytes of all 32 places
+abbrev pub allPlaces : ℕ
+allPlaces = 32768
+
 -- what the receiver knows where it has come past checks 1 and 2 and the reader
 pub record Passed (s : State) (store section : List ℕ) (head : SectionHead) : Type 0 where
-  pub roomy : 32768 ≤ length store
+  pub roomy : allPlaces ≤ length store
   pub good : wellFormed s ≡ true
   pub content : Content
   pub reads : readSection section ≡ right content

@@ -5,6 +5,7 @@ ghost use Prim.Native.Nat.{_+_, _<_, _≤_};
 ghost use lib.ListN.{length};
 ghost use Rattle.rules.specs.Holding.{fresh, wellFormed, indexOf, holdingOf, with, gatheredAt, takesIn, offered, storeAfter};
 ghost use Rattle.rules.specs.Holding as rule;
+ghost use Rattle.holding.specs.Given.{limit};
 ghost use Rattle.receiver.specs.Taking.{forOther, answered, Passed};
 use rules::Answer;
 use rules::GatheredVersion;
@@ -115,7 +116,7 @@ fn index_of(t: Table) -> usize
 
 // Where section n of a table is put: in the other half than the one set.
 fn gathered_at(s: State, t: Table, n: u8) -> usize
-    requires { ⌜ n < 4 ⌝ }
+    requires { ⌜ n < limit ⌝ }
     ensures { λ x. ⌜ x ≡ gatheredAt s t n ⌝ }
 {
     let h = holding_of(s, t);
