@@ -18,6 +18,7 @@ sys.dont_write_bytecode = True
 import generate
 import section as reading
 
+COUNT = 30000           # sections in total, at least
 TIMES = 4               # sections for each clause
 SHOWN = 10              # differences printed
 PATIENCE = 300          # seconds that PROGRAM may take
@@ -149,34 +150,32 @@ def number_from(least):
     return number
 
 
-def arguments():
-    parser = Parser(description='Compare the answers of a program that reads sections with '
-                                'those of section.py, over a batch of generated sections.',
-                    epilog='The program gets each section as a 4-byte little-endian length '
-                           'and the bytes, and writes one byte for each: 0 or the number of '
-                           'the refusal. Exit: 0 all equal, 1 a difference or a failure, '
-                           '2 a bad argument.')
+def command(compare, count, about, count_help):
+    """Runs a comparison with the arguments of the command line; answers its exit status."""
+    parser = Parser(description=about,
+                    epilog='Exit: 0 all equal, 1 a difference or a failure, 2 a bad argument.')
     parser.add_argument('program', metavar='PROGRAM', help='the program to run')
     parser.add_argument('--seed', metavar='N', type=number_from(0), default=1,
-                        help='seed of the generated sections (default 1)')
-    parser.add_argument('--count', metavar='N', type=number_from(1), default=30000,
-                        help='sections in total, at least (default 30000); the sweeps and '
-                             'clauses are always all there, and a third of N random ones')
+                        help='seed of what is generated (default 1)')
+    parser.add_argument('--count', metavar='N', type=number_from(1), default=count,
+                        help='%s (default %d)' % (count_help, count))
     parser.add_argument('--parse', action='store_true',
                         help='only say whether the arguments are right')
-    return parser.parse_args()
-
-
-def main():
-    given = arguments()
+    given = parser.parse_args()
     if given.parse:
         return 0
     try:
         return 1 if compare(given.program, given.seed, given.count) else 0
     except Failure as failure:
-        print('compare: %s' % failure)
+        print('%s: %s' % (parser.prog, failure))
         return 1
 
 
 if __name__ == '__main__':
-    sys.exit(main())
+    sys.exit(command(compare, COUNT,
+                     'Compare the answers of a program that reads sections with those of section.py, '
+                     'over a batch of generated sections. The program gets each section as a 4-byte '
+                     'little-endian length and the bytes, and writes one byte for each: 0 or the number '
+                     'of the refusal.',
+                     'sections in total, at least; the sweeps and clauses are always all there, and a '
+                     'third of N random ones'))

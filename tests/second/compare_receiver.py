@@ -14,7 +14,7 @@ from collections import Counter
 sys.dont_write_bytecode = True
 
 import trials
-from compare import SHOWN, Failure, Parser, Question, ask, number_from
+from compare import SHOWN, Question, ask, command
 from receiver import LIVE, ORDER, OTHER_MAP, REFUSED, REPEAT, STORED, offer, read
 from section import Refusal
 
@@ -155,31 +155,8 @@ def compare(program, seed, count):
     return len(lines) + len(different)
 
 
-def arguments():
-    parser = Parser(description='Compare the receiver of a program with receiver.py, over a batch of '
-                                'generated trials: a state, a store, and sections offered one after the '
-                                'other.',
-                    epilog='Exit: 0 all equal, 1 a difference or a failure, 2 a bad argument.')
-    parser.add_argument('program', metavar='PROGRAM', help='the program to run')
-    parser.add_argument('--seed', metavar='N', type=number_from(0), default=1,
-                        help='seed of the generated trials (default 1)')
-    parser.add_argument('--count', metavar='N', type=number_from(1), default=COUNT,
-                        help='random trials (default %d); the directed ones are always all there' % COUNT)
-    parser.add_argument('--parse', action='store_true',
-                        help='only say whether the arguments are right')
-    return parser.parse_args()
-
-
-def main():
-    given = arguments()
-    if given.parse:
-        return 0
-    try:
-        return 1 if compare(given.program, given.seed, given.count) else 0
-    except Failure as failure:
-        print('compare_receiver: %s' % failure)
-        return 1
-
-
 if __name__ == '__main__':
-    sys.exit(main())
+    sys.exit(command(compare, COUNT,
+                     'Compare the receiver of a program with receiver.py, over a batch of generated trials: '
+                     'a state, a store, and sections offered one after the other.',
+                     'random trials; the directed ones are always all there'))

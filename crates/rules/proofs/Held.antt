@@ -7,7 +7,7 @@ use mathlib.Core.Path.{_≡_, refl, sym, ap, _∙_}
 use mathlib.Core.Bool.{Bool, true, false}
 use lib.Dec.{ltb}
 use lib.Pow.{pow-pos, pow-mono, shr-shr, shr-le, ones-lt}
-use lib.Bits.{bitOr, or-zero-r, or-shr, or-mod, or-add-and, and-le-l}
+use lib.Bits.{bitOr, or-comm, or-zero-r, or-shr, or-mod, or-add-and, and-le-l}
 use lib.Count.{ones, ones-step, ones-le}
 use borrow.Author.Tests.{ltb-true, ltb-false, eqb-true, eqb-false, eq-eqb, ne-eqb}
 use Rattle.rules.specs.Holding.{holds, allOf}
@@ -19,9 +19,7 @@ or-left (suc zero) h = refl
 or-left (suc (suc x)) h = absurd (omega arith)
 
 or-right : (x : ℕ) → x < 2 → bitOr x 1 ≡ 1
-or-right zero h = refl
-or-right (suc zero) h = refl
-or-right (suc (suc x)) h = absurd (omega arith)
+or-right x h = or-comm x 1 ∙ or-left x h
 
 digit : (h g k : ℕ) → bitOr h g / 2 ^ k % 2 ≡ bitOr (h / 2 ^ k % 2) (g / 2 ^ k % 2)
 digit h g k = ap (λ (x : ℕ). x % 2) (or-shr h g k) ∙ or-mod (h / 2 ^ k) (g / 2 ^ k) 1
