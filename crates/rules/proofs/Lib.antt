@@ -11,5 +11,6 @@ pub mod Steps
 pub mod Store
 pub mod Offers
 pub mod GoingLive
+pub mod Promise
 pub mod Faithful
 pub mod Asking
