@@ -1,29 +1,29 @@
 -- The promise of going live: "Sections 0 to last of one version, all reading right with that last and for our map, each
 -- offered in any order with no other version of that table between them, leave it live by the last of them, if state and
 -- store pass checks 1 and 2, last is at most 3 and neither the live nor the gathered table has that version with another
--- last number." What may stand between them is said by `Offerable`; last is below the limit of sections, which is four.
+-- last number." `goes-live` says so, from the first of them on; last is below the limit of sections, which is four.
 use Prim.Native.Nat.{ℕ, _<_, _≤_}
 use native.Mathlib.Omega.{arith}
-use mathlib.Core.Path.{_≡_, refl, sym, ap, _∙_}
+use mathlib.Core.Path.{_≡_, refl, sym, ap, subst, _∙_}
 use mathlib.Core.Logic.{_⊎_, inl, inr}
 use mathlib.Core.Bool.{Bool, true, false, _&&_}
 use mathlib.Core.List.{List, [], _∷_}
-use lib.Dec.{eqb}
+use lib.Dec.{leb, eqb}
 use lib.ListN.{length}
-use borrow.Author.Tests.{eqb-true, eq-eqb}
+use borrow.Author.Tests.{leb-true, leb-false, eqb-true, eqb-false, eq-eqb, ne-eqb}
 use Rattle.rules.specs.Section.{Content, Reading, wrong, right, readSection}
-use Rattle.rules.specs.Holding.{limitOf, storeSize, holdingOf, isLive, isGathered, holds, wellFormed, holdingFormed, otherLast, isRepeat, stepOf, otherMap, stepped, takesIn, Box, answerTo, boxAfter, run}
+use Rattle.rules.specs.Holding.{limitOf, storeSize, holdingOf, isLive, isGathered, holds, wellFormed, holdingFormed, otherLast, isRepeat, stepOf, notOurs, otherMap, stepped, takesIn, Box, answerTo, boxAfter, run}
 use Rattle.rules.specs.declared.Table.{Table}
 use Rattle.rules.specs.declared.Holding.{Holding}
 use Rattle.rules.specs.declared.State.{State}
 use Rattle.rules.specs.declared.Revision.{Revision}
-use Rattle.rules.proofs.Taken.{both-left, both-right}
+use Rattle.rules.proofs.Taken.{differ, both-left, both-right}
 use Rattle.rules.proofs.Right.{one-right, not-right}
 use Rattle.rules.proofs.Held.{all-held}
-use Rattle.rules.proofs.Steps.{differ, held-lt, gathered-last, live-last, Sound, After, step-after}
+use Rattle.rules.proofs.Steps.{held-lt, gathered-last, live-last, Sound, After, step-refused, step-after}
 use Rattle.rules.proofs.Offers.{same-table, table-formed, Passed, passed-sound, offer-cases, NotOf, step-holds, untouched, map-kept, limit-kept, formed-kept, others-kept, length-kept}
 
--- checks 1 and 2 pass
+-- "state and store pass checks 1 and 2"
 pub record Checked (b : Box) : Type 0 where
   pub roomy : storeSize (limitOf (b .state)) ≤ length (b .store)
   pub good : wellFormed (b .state) ≡ true
@@ -34,7 +34,7 @@ checked-kept b section k =
 
 -- the map number alone tells which sections are for another map
 pub map-by : (s u : State) (c : Content) → s .map ≡ u .map → otherMap s c ≡ otherMap u c
-unfolding otherMap
+unfolding otherMap notOurs
 map-by s u c e = rw e refl
 
 other-map-out : (b : Box) (x : List ℕ) (c : Content) → readSection x ≡ right c → otherMap (b .state) c ≡ true → takesIn (answerTo b x) ≡ false
@@ -42,6 +42,32 @@ unfolding answerTo stepped
 other-map-out b x c r m =
     offer-cases (b .state) (length (b .store)) x (λ o. takesIn (o .answer) ≡ false) (λ n. refl) refl
     (λ d p. absurd (differ (sym m ∙ ap (otherMap (b .state)) (one-right (sym r ∙ p .reads)) ∙ p .ours)))
+
+-- a section that its table's step refuses
+refused-out : (b : Box) (x : List ℕ) (c : Content) → readSection x ≡ right c
+    → (limitOf (b .state) ≤ c .revision .last) ⊎ (otherLast (holdingOf (b .state) (c .table)) (c .revision) ≡ true) → takesIn (answerTo b x) ≡ false
+unfolding answerTo stepped
+refused-out b x c r o =
+    offer-cases (b .state) (length (b .store)) x (λ y. takesIn (y .answer) ≡ false) (λ n. refl) refl
+    (λ d p.
+    subst (λ (k : Content). takesIn (stepOf (limitOf (b .state)) (holdingOf (b .state) (k .table)) (k .revision) .answer) ≡ false) (one-right (sym r ∙ p .reads))
+    (step-refused (holdingOf (b .state) (c .table)) (c .revision) (limitOf (b .state)) o))
+
+-- where a version is live or gathered with one last number, every other one is another last
+other-known : (h : Holding) (v last m : ℕ) (r : Revision) → otherLast h (record { version = v; number = 0; last = last }) ≡ false
+    → isRepeat h (record { version = v; number = m; last = last }) ≡ true → r .version ≡ v → (r .last ≡ last → ⊥) → otherLast h r ≡ true
+unfolding otherLast isRepeat
+other-known h v last m r apart known is ne = go (isLive h v) refl
+  where
+    go : (b : Bool) → isLive h v ≡ b → otherLast h r ≡ true
+    go true e =
+        let same : h .live .last ≡ last = live-last h (record { version = v; number = 0; last = last }) apart e in
+        rw is (simp (e, ne-eqb (h .live .last) (r .last) (λ q. ne (sym q ∙ same))))
+    go false e =
+        let both : (isGathered h v && holds (h .gathered .held) m) ≡ true = simp e at known in
+        let g = both-left (isGathered h v) _ both in
+        let same : h .gathered .last ≡ last = gathered-last h (record { version = v; number = 0; last = last }) apart g in
+        rw is (simp (e, g, ne-eqb (h .gathered .last) (r .last) (λ q. ne (sym q ∙ same))))
 
 -- once all of 0 to last of a version are held or live, it is live
 all-known : (limit : ℕ) (h : Holding) (v last : ℕ) → holdingFormed limit h ≡ true → otherLast h (record { version = v; number = 0; last = last }) ≡ false
@@ -111,6 +137,7 @@ module _ (start : State) (t : Table) (v last : ℕ) where
   record Kept (b : Box) : Type 0 where
     checked : Checked b
     map : b .state .map ≡ start .map
+    limit : limitOf (b .state) ≡ limitOf start
     low : last < limitOf (b .state)
     apart : otherLast (own b) (revised 0) ≡ false
 
@@ -153,6 +180,7 @@ module _ (start : State) (t : Table) (v last : ℕ) where
         record {
           checked = checked-kept b x (k .checked);
           map = map-kept b x ∙ k .map;
+          limit = limit-kept b x ∙ k .limit;
           low = rw (limit-kept b x) (k .low);
           apart = e;
         }
@@ -212,7 +240,7 @@ module _ (start : State) (t : Table) (v last : ℕ) where
         ← l,
       ) refl
 
-  -- the promise for a box whose state is the one at the start
+  -- the promise, from what goes on holding
   lives : (b : Box) (sections : List (List ℕ)) → Kept b → Each b sections → ((n : ℕ) → n ≤ last → Among n sections)
       → own (run b sections) .live ≡ record { present = 1; version = v; last = last }
   lives b sections first each all =
@@ -224,35 +252,56 @@ module _ (start : State) (t : Table) (v last : ℕ) where
       (λ n le. r .new n (all n le)) in
       live-as (own end) live (live-last (own end) (revised 0) (k .apart) live)
 
-  -- no other version of the table, and no other last: whatever reads right, is for our map and of the table is a section of
-  -- the version with that last. Sections that do not read right, that are for another map or of other tables may stand there
+  -- no other version of the table: whatever reads right, is for our map and of the table, and has a last number that is not
+  -- refused as 12, is of that version
   pub record NoOther (section : List ℕ) : Type 0 where
-    pub only : (c : Content) → readSection section ≡ right c → otherMap start c ≡ false → c .table ≡ t → (c .revision .version ≡ v) × (c .revision .last ≡ last)
+    pub only : (c : Content) → readSection section ≡ right c → otherMap start c ≡ false → c .table ≡ t → c .revision .last < limitOf start → c .revision .version ≡ v
 
   abbrev pub NoneOther : (sections : List (List ℕ)) → Type 0
   NoneOther [] = Unit {0}
   NoneOther (x ∷ xs) = NoOther x × NoneOther xs
 
-  offerable : (b : Box) (x : List ℕ) → b .state .map ≡ start .map → NoOther x → Offerable b x
-  offerable b x e f = go (readSection x) refl
-    where
-      of-table : (c : Content) → readSection x ≡ right c → otherMap start c ≡ false → (c .table ≡ t) ⊎ (c .table ≡ t → ⊥) → Offerable b x
-      of-table c r m (inl q) =
-          let is = f .only c r m q in
-          wanted (c .revision .number) (record { content = c; reads = r; ours = m; table = q; revision = rw (← is .0, ← is .1) refl })
-      of-table c r m (inr ne) = elsewhere (record { other = λ d o q. ne (ap (λ (k : Content). k .table) (one-right (sym r ∙ o)) ∙ q) })
+  -- behind the first of them the version is live or gathered, so that one with another last is refused
+  module _ (b : Box) (x : List ℕ) (k : Kept b) (m : ℕ) (known : isRepeat (own b) (revised m) ≡ true) (f : NoOther x) where
+    of-version : (c : Content) → readSection x ≡ right c → otherMap start c ≡ false → c .table ≡ t → c .revision .version ≡ v → (a : Bool) → eqb (c .revision .last) last ≡ a → Offerable b x
+    of-version c r o q is true e =
+        wanted (c .revision .number) (record { content = c; reads = r; ours = o; table = q; revision = rw (← is, ← eqb-true (c .revision .last) last e) refl })
+    of-version c r o q is false e =
+        kept-out (refused-out b x c r (inr (ap (λ (u : Table). otherLast (holdingOf (b .state) u) (c .revision)) q
+        ∙ other-known (own b) v last m (c .revision) (k .apart) known is (eqb-false (c .revision .last) last e))))
 
-      mapped : (c : Content) → readSection x ≡ right c → (a : Bool) → otherMap start c ≡ a → Offerable b x
-      mapped c r true m = kept-out (other-map-out b x c r (map-by (b .state) start c e ∙ m))
-      mapped c r false m = of-table c r m (same-table (c .table) t)
+    of-table : (c : Content) → readSection x ≡ right c → otherMap start c ≡ false → c .table ≡ t → (a : Bool) → leb (limitOf start) (c .revision .last) ≡ a → Offerable b x
+    of-table c r o q true e = kept-out (refused-out b x c r (inl (omega (arith, k .limit, leb-true (limitOf start) (c .revision .last) e))))
+    of-table c r o q false e =
+        of-version c r o q (f .only c r o q (leb-false (limitOf start) (c .revision .last) e)) (eqb (c .revision .last) last) refl
 
-      go : (r : Reading) → readSection x ≡ r → Offerable b x
-      go (wrong n) r = elsewhere (record { other = λ d o q. not-right n d (sym r ∙ o) })
-      go (right c) r = mapped c r (otherMap start c) refl
+    any-table : (c : Content) → readSection x ≡ right c → otherMap start c ≡ false → (c .table ≡ t) ⊎ (c .table ≡ t → ⊥) → Offerable b x
+    any-table c r o (inl q) = of-table c r o q (leb (limitOf start) (c .revision .last)) refl
+    any-table c r o (inr ne) = elsewhere (record { other = λ d e q. ne (ap (λ (y : Content). y .table) (one-right (sym r ∙ e)) ∙ q) })
 
-  each-offerable : (xs : List (List ℕ)) (b : Box) → b .state .map ≡ start .map → NoneOther xs → Each b xs
-  each-offerable [] b e f = tt
-  each-offerable (x ∷ xs) b e f = (offerable b x e (f .0), each-offerable xs (boxAfter b x) (map-kept b x ∙ e) (f .1))
+    mapped : (c : Content) → readSection x ≡ right c → (a : Bool) → otherMap start c ≡ a → Offerable b x
+    mapped c r true o = kept-out (other-map-out b x c r (map-by (b .state) start c (k .map) ∙ o))
+    mapped c r false o = any-table c r o (same-table (c .table) t)
+
+    offerable : Offerable b x
+    offerable = go (readSection x) refl
+      where
+        go : (y : Reading) → readSection x ≡ y → Offerable b x
+        go (wrong n) r = elsewhere (record { other = λ d e q. not-right n d (sym r ∙ e) })
+        go (right c) r = mapped c r (otherMap start c) refl
+
+  each-offerable : (xs : List (List ℕ)) (b : Box) → Kept b → (m : ℕ) → isRepeat (own b) (revised m) ≡ true → NoneOther xs → Each b xs
+  each-offerable [] b k m known none = tt
+  each-offerable (x ∷ xs) b k m known none =
+      let o = offerable b x k m known (none .0) in
+      let a = one b x k o in
+      (o, each-offerable xs (boxAfter b x) (a .kept) m (a .known m known) (none .1))
+
+  -- from the first of them on
+  from-first : (b : Box) (n : ℕ) (x : List ℕ) (xs : List (List ℕ)) → Kept b → Wanted n x → NoneOther xs → Each b (x ∷ xs)
+  from-first b n x xs k w none =
+      let a = one b x k (wanted n w) in
+      (wanted n w, each-offerable xs (boxAfter b x) (a .kept) n (a .new n w) none)
 
 -- ---- the promise of document 01
 
@@ -267,13 +316,16 @@ module _ (b : Box) (t : Table) (v last : ℕ) (sections : List (List ℕ)) where
 
   kept-first : Promised → Kept (b .state) t v last b
   kept-first p =
-      record { checked = p .checks; map = refl; low = p .low; apart = none-other v last (holdingOf (b .state) t) (p .same) }
+      record { checked = p .checks; map = refl; limit = refl; low = p .low; apart = none-other v last (holdingOf (b .state) t) (p .same) }
 
-  pub goes-live : Promised → NoneOther (b .state) t v last sections
-      → holdingOf (run b sections .state) t .live ≡ record { present = 1; version = v; last = last }
-  goes-live p none = lives (b .state) t v last b sections (kept-first p) (each-offerable (b .state) t v last sections b refl none) (p .all)
-
-  -- also with sections between them that the box refuses when they come, as 12 or 13, or repeats of another live version
+  -- with anything between them that the box keeps out when it comes, a repeat of another version that is live too
   pub goes-live-among : Promised → Each (b .state) t v last b sections
       → holdingOf (run b sections .state) t .live ≡ record { present = 1; version = v; last = last }
   goes-live-among p each = lives (b .state) t v last b sections (kept-first p) each (p .all)
+
+-- "each offered in any order with no other version of that table between them": from the first of them on. Refused sections,
+-- sections for another map and of other tables, repeats, and the same version with another last may stand between them
+pub goes-live : (b : Box) (t : Table) (v last n : ℕ) (x : List ℕ) (xs : List (List ℕ)) → Promised b t v last (x ∷ xs) → Wanted (b .state) t v last n x
+    → NoneOther (b .state) t v last xs → holdingOf (run b (x ∷ xs) .state) t .live ≡ record { present = 1; version = v; last = last }
+goes-live b t v last n x xs p w none =
+    goes-live-among b t v last (x ∷ xs) p (from-first (b .state) t v last b n x xs (kept-first b t v last (x ∷ xs) p) w none)

@@ -2,7 +2,7 @@
 -- such that checks 1 and 2 pass.
 use Prim.Native.Nat.{ℕ, _+_, _-_, _<_, _≤_}
 use native.Mathlib.Omega.{arith}
-use mathlib.Core.Path.{_≡_, refl, sym, ap, _∙_}
+use mathlib.Core.Path.{_≡_, refl, sym, ap, subst, _∙_}
 use mathlib.Core.Logic.{_⊎_, inl, inr}
 use mathlib.Core.Bool.{Bool, true, false, not, _&&_}
 use mathlib.Core.List.{List}
@@ -11,18 +11,18 @@ use lib.ListN.{length, take}
 use borrow.Author.Tests.{ltb-false, le-ltb, eqb-true, eqb-false}
 use Rattle.rules.specs.Bytes.{from}
 use Rattle.rules.specs.Section.{Content, Reading, wrong, right, readSection}
-use Rattle.rules.specs.Holding.{limitOf, indexOf, placeOf, storeSize, put, holdingOf, with, liveAt, gatheredAt, holds, heldWith, holdingFormed, wellFormed, stepOf, otherMap, stepped, offeredAs, offered, takesIn, putAs, storeAfter, Box, answerTo, boxAfter}
+use Rattle.rules.specs.Holding.{limitOf, indexOf, placeOf, storeSize, put, holdingOf, with, liveAt, gatheredAt, noneLive, noneGathered, freshHolding, fresh, liveFormed, gatheredFormed, sameVersion, holdingFormed, wellFormed, stepOf, otherMap, stepped, offeredAs, offered, takesIn, putAs, storeAfter, Box, answerTo, boxAfter}
 use Rattle.rules.specs.declared.Table.{Table}
 use Rattle.rules.specs.declared.Table.the-variants.{Cds, Mms, Vcm, Dcm}
 use Rattle.rules.specs.declared.Holding.{Holding}
 use Rattle.rules.specs.declared.State.{State}
 use Rattle.rules.specs.declared.Stepped.{Stepped}
 use Rattle.rules.specs.declared.Offered.{Offered}
-use Rattle.rules.specs.declared.Answer.the-variants.{Refused, OtherMap, Stored, Live}
-use Rattle.rules.proofs.Taken.{both-left, both-right}
-use Rattle.rules.proofs.Right.{reads-right}
-use Rattle.rules.proofs.Steps.{differ, formed, Sound, goesLive, SameLive, WentLive, Joined, Taking, step-taking, step-kept, step-formed, step-live, step-went, step-stored, step-completes, went-changes}
-use Rattle.rules.proofs.Store.{put-length, put-apart, same-index, place-fits, places-apart}
+use Rattle.rules.specs.declared.Answer.the-variants.{Refused, OtherMap, Repeat, Stored, Live}
+use Rattle.rules.proofs.Taken.{differ, both-left, both-right}
+use Rattle.rules.proofs.Right.{one-right, reads-right}
+use Rattle.rules.proofs.Steps.{formed, Sound, goesLive, SameLive, HeldWith, WentLive, Joined, Taking, step-taking, step-kept, step-formed, step-live, step-went, step-stored, step-completes, went-changes}
+use Rattle.rules.proofs.Store.{put-length, put-apart, put-there, same-index, place-fits, places-apart}
 
 -- ---- the tables of a state
 
@@ -92,6 +92,10 @@ with-formed s t h e f = all-formed (with s t h) (λ u. rw (with-limit s t h) (go
     go : (u : Table) → (t ≡ u) ⊎ (t ≡ u → ⊥) → holdingFormed (limitOf s) (holdingOf (with s t h) u) ≡ true
     go u (inl q) = rw (← q, with-same s t h) f
     go u (inr ne) = rw (with-other s t u h ne) (table-formed s u e)
+
+pub fresh-formed : (map : ℕ) → wellFormed (fresh map) ≡ true
+unfolding fresh limitOf wellFormed holdingFormed liveFormed gatheredFormed sameVersion freshHolding noneLive noneGathered
+fresh-formed map = refl
 
 -- ---- the ways of an offer
 
@@ -168,7 +172,7 @@ module _ (b : Box) (section : List ℕ) where
   unfolding boxAfter answerTo storeAfter putAs
   store-put c e r = simp (e, r)
 
-  -- it is taken in, or nothing changes
+  -- what an answer of steps 5 and 6 tells
   pub taken-in : takesIn (answerTo b section) ≡ true → (c : Content) × TakenIn c
   unfolding answerTo stepped
   taken-in took =
@@ -195,6 +199,15 @@ module _ (b : Box) (section : List ℕ) where
           (λ n _. refl) (λ _. refl)
           (λ c p e. rw (step-kept (holdingOf s (c .table)) (c .revision) (limitOf s) (passed-sound s (length (b .store)) section c p) e) (with-own s (c .table)))
           out
+
+  pub refused-leaves : (n : ℕ) → answerTo b section ≡ Refused n → boxAfter b section ≡ b
+  refused-leaves n e = untouched (ap takesIn e)
+
+  pub other-map-leaves : answerTo b section ≡ OtherMap → boxAfter b section ≡ b
+  other-map-leaves e = untouched (ap takesIn e)
+
+  pub repeat-leaves : answerTo b section ≡ Repeat → boxAfter b section ≡ b
+  repeat-leaves e = untouched (ap takesIn e)
 
   -- the map number, "given at the start"
   pub map-kept : after .state .map ≡ s .map
@@ -268,7 +281,7 @@ module _ (b : Box) (section : List ℕ) where
           }
 
   -- and it answers *live* wherever a section that is taken in makes its version complete
-  pub completes : (c : Content) → TakenIn c → ((k : ℕ) → k ≤ c .revision .last → holds (heldWith (holdingOf s (c .table)) (c .revision)) k ≡ true)
+  pub completes : (c : Content) → TakenIn c → ((k : ℕ) → k ≤ c .revision .last → HeldWith (holdingOf s (c .table)) (c .revision) k)
       → answerTo b section ≡ Live (c .revision .version)
   completes c k all =
       step-answers c (k .passed)
@@ -310,22 +323,29 @@ module _ (b : Box) (section : List ℕ) where
 
   -- a part of the store that a section which is taken in does not reach
   pub part-kept : (p n : ℕ)
-      → ((c : Content) → TakenIn c → (p + n ≤ gatheredAt s (c .table) (c .revision .number)) ⊎ (gatheredAt s (c .table) (c .revision .number) + 1024 ≤ p))
+      → ((c : Content) → TakenIn c → (p + n ≤ gatheredAt s (c .table) (c .revision .number)) ⊎ (gatheredAt s (c .table) (c .revision .number) + length section ≤ p))
       → take n (from (after .store) p) ≡ take n (from (b .store) p)
   part-kept p n away = go (takesIn (answerTo b section)) refl
     where
-      nearer : (at : ℕ) → length section ≤ 1024 → (p + n ≤ at) ⊎ (at + 1024 ≤ p) → (p + n ≤ at) ⊎ (at + length section ≤ p)
-      nearer at short (inl le) = inl le
-      nearer at short (inr le) = inr (omega arith)
-
       go : (x : Bool) → takesIn (answerTo b section) ≡ x → take n (from (after .store) p) ≡ take n (from (b .store) p)
       go false e = ap (λ (k : Box). take n (from (k .store) p)) (untouched e)
       go true e =
           let c = taken-in e .0 in
           let t = taken-in e .1 in
           ap (λ (l : List ℕ). take n (from l p)) (t .stored)
-          ∙ put-apart (b .store) (gatheredAt s (c .table) (c .revision .number)) section (t .fits) p n
-          (nearer _ (reads-right section c (t .passed .reads) .short) (away c t))
+          ∙ put-apart (b .store) (gatheredAt s (c .table) (c .revision .number)) section (t .fits) p n (away c t)
+
+  -- "Steps 5 and 6 put the section's bytes at the front of its place"
+  pub placed : (c : Content) → TakenIn c → take (length section) (from (after .store) (gatheredAt s (c .table) (c .revision .number))) ≡ section
+  placed c t =
+      ap (λ (l : List ℕ). take (length section) (from l (gatheredAt s (c .table) (c .revision .number)))) (t .stored)
+      ∙ put-there (b .store) (gatheredAt s (c .table) (c .revision .number)) section (t .fits)
+
+  -- "the rest of the place", and all behind it
+  pub rest-kept : (c : Content) → TakenIn c → (p n : ℕ) → gatheredAt s (c .table) (c .revision .number) + length section ≤ p
+      → take n (from (after .store) p) ≡ take n (from (b .store) p)
+  rest-kept c t p n le =
+      part-kept p n (λ d k. inr (subst (λ (x : Content). gatheredAt s (x .table) (x .revision .number) + length section ≤ p) (sym (one-right (sym (k .passed .reads) ∙ t .passed .reads))) le))
 
   -- every place but the one that the section is put into
   pub place-kept : (t : Table) (half n : ℕ) → half < 2 → n < limitOf s
@@ -334,12 +354,12 @@ module _ (b : Box) (section : List ℕ) where
   unfolding gatheredAt
   place-kept t half n halves low away =
       part-kept (placeOf (limitOf s) t half n) 1024
-      (λ c k. swap (places-apart (limitOf s) (c .table) (1 - holdingOf s (c .table) .half) (c .revision .number) (omega arith)
+      (λ c k. nearer (reads-right section c (k .passed .reads) .short) (places-apart (limitOf s) (c .table) (1 - holdingOf s (c .table) .half) (c .revision .number) (omega arith)
       (omega (arith, k .taking .ready .sound .number, k .taking .ready .low)) t half n halves low (away c k)))
     where
-      swap : {P Q : Type 0} → P ⊎ Q → Q ⊎ P
-      swap (inl x) = inr x
-      swap (inr x) = inl x
+      nearer : {at p : ℕ} → length section ≤ 1024 → (at + 1024 ≤ p) ⊎ (p + 1024 ≤ at) → (p + 1024 ≤ at) ⊎ (at + length section ≤ p)
+      nearer short (inl le) = inr (omega arith)
+      nearer short (inr le) = inl le
 
   -- the places of another table, in both halves
   pub other-places : (t : Table) → NotOf t section → (half n : ℕ) → half < 2 → n < limitOf s
@@ -369,4 +389,4 @@ module _ (b : Box) (section : List ℕ) where
       (λ c k.
       let fits = place-fits (limitOf s) (c .table) (1 - holdingOf s (c .table) .half) (c .revision .number) (omega arith)
       (omega (arith, k .taking .ready .sound .number, k .taking .ready .low)) in
-      inr (omega (arith, fits)))
+      inr (omega (arith, fits, reads-right section c (k .passed .reads) .short)))

@@ -3,34 +3,24 @@
 use Prim.Native.Nat.{ℕ, _+_, _-_, _^_, _<_, _≤_}
 use native.Mathlib.Omega.{arith}
 use mathlib.Core.Path.{_≡_, refl, sym, ap, _∙_}
+use mathlib.Core.Logic.{_⊎_, inl, inr}
 use mathlib.Core.Bool.{Bool, true, false, not, _&&_, _||_}
 use lib.Dec.{leb, ltb, eqb}
 use lib.Bits.{or-lt}
 use lib.Pow.{pow-pos, pow-lt}
 use lib.Count.{ones}
-use borrow.Author.Tests.{leb-true, leb-false, ltb-true, eqb-true, eqb-false, not-true, not-false, eq-eqb, le-leb, lt-leb, lt-ltb}
-use Rattle.rules.specs.Holding.{noneGathered, holds, allOf, isLive, isGathered, liveFormed, gatheredFormed, sameVersion, holdingFormed, otherLast, isRepeat, heldWith, goneLive, gathering, liveOrStored, stepOf, takesIn}
+use borrow.Author.Tests.{leb-true, leb-false, ltb-true, eqb-true, eqb-false, not-true, not-false, eq-eqb, ne-eqb, le-leb, lt-leb, lt-ltb}
+use Rattle.rules.specs.Holding.{noneGathered, holds, allOf, isLive, isGathered, liveFormed, heldFormed, gatheredFormed, sameVersion, holdingFormed, otherLast, isRepeat, heldWith, goneLive, gathering, liveOrStored, stepOf, takesIn}
 use Rattle.rules.specs.declared.Holding.{Holding}
 use Rattle.rules.specs.declared.Revision.{Revision}
 use Rattle.rules.specs.declared.Stepped.{Stepped}
 use Rattle.rules.specs.declared.Answer.{Answer}
 use Rattle.rules.specs.declared.Answer.the-variants.{Refused, OtherMap, Repeat, Stored, Live}
-use Rattle.rules.proofs.Taken.{both-left, both-right}
+use Rattle.rules.proofs.Taken.{differ, both-left, both-right, neither-left, neither-right}
 use Rattle.rules.proofs.Held.{holds-kept, holds-one, holds-new, all-lt, all-held, holds-all, holds-other, not-alone, joined-some, few-held, not-all}
-
-pub neither-left : (a b : Bool) → (a || b) ≡ false → a ≡ false
-neither-left true b e = e
-neither-left false b e = refl
-
-pub neither-right : (a b : Bool) → (a || b) ≡ false → b ≡ false
-neither-right true b e = let z : _≡_ {A = ℕ} 0 1 = cc in absurd (omega arith)
-neither-right false b e = e
 
 same : (n : ℕ) → eqb n n ≡ true
 same n = eq-eqb n n refl
-
-pub differ : true ≡ false → ⊥
-differ e = let z : _≡_ {A = ℕ} 0 1 = cc in omega arith
 
 -- ---- answers
 
@@ -53,6 +43,18 @@ pub record SameLive (u h : Holding) : Type 0 where
   pub half : u .half ≡ h .half
 
 -- ---- a holding that is well formed
+
+held-few : (held last : ℕ) → heldFormed held last ≡ true → held < allOf last
+unfolding heldFormed
+held-few held last e =
+    let two = both-left (not (eqb held 0) && not (eqb held (allOf last))) _ e in
+    not-all last held (ltb-true held (2 ^ (last + 1)) (both-right (not (eqb held 0) && not (eqb held (allOf last))) _ e))
+    (eqb-false held (allOf last) (not-true _ (both-right (not (eqb held 0)) _ two)))
+
+some-held : (held last : ℕ) → 0 < held → held < allOf last → heldFormed held last ≡ true
+unfolding heldFormed
+some-held held last some few =
+    simp (ne-eqb held 0 (λ e. omega (arith, e, some)), ne-eqb held (allOf last) (λ e. omega (arith, e, few)), lt-ltb held (2 ^ (last + 1)) (omega (arith, few, all-lt last)))
 
 -- its clauses
 pub record Formed (limit : ℕ) (h : Holding) : Type 0 where
@@ -78,17 +80,15 @@ module _ (limit : ℕ) (h : Holding) where
   unfolding holdingFormed
   forms f = simp (le-leb (h .half) 1 (omega (arith, f .half)), f .live, f .gathered, f .apart)
 
-  -- fewer than all of the gathered version are held
+  -- of a gathered version: its last is below the limit, and some of 0 to last are held but not all
   pub gathered-clauses : holdingFormed limit h ≡ true → h .gathered .present ≡ 1 → (h .gathered .last < limit) × (h .gathered .held < allOf (h .gathered .last))
   unfolding gatheredFormed
   gathered-clauses e there =
-      let all : (leb (h .gathered .version) 31 && ltb (h .gathered .last) limit && ltb 0 (h .gathered .held) && ltb (h .gathered .held) (allOf (h .gathered .last))) ≡ true =
-      simp (eq-eqb (h .gathered .present) 1 there) at (formed e .gathered) in
-      let three = both-left (leb (h .gathered .version) 31 && ltb (h .gathered .last) limit && ltb 0 (h .gathered .held)) _ all in
-      let two = both-left (leb (h .gathered .version) 31 && ltb (h .gathered .last) limit) _ three in (
-        ltb-true (h .gathered .last) limit (both-right (leb (h .gathered .version) 31) _ two),
-        ltb-true (h .gathered .held) (allOf (h .gathered .last)) (both-right (leb (h .gathered .version) 31 && ltb (h .gathered .last) limit && ltb 0 (h .gathered .held)) _ all),
-      )
+      let all : (leb (h .gathered .version) 31 && ltb (h .gathered .last) limit && heldFormed (h .gathered .held) (h .gathered .last)) ≡ true =
+          simp (eq-eqb (h .gathered .present) 1 there) at (formed e .gathered) in
+      let two = both-left (leb (h .gathered .version) 31 && ltb (h .gathered .last) limit) _ all in
+      (ltb-true (h .gathered .last) limit (both-right (leb (h .gathered .version) 31) _ two),
+      held-few (h .gathered .held) (h .gathered .last) (both-right (leb (h .gathered .version) 31 && ltb (h .gathered .last) limit) _ all))
 
   pub held-lt : holdingFormed limit h ≡ true → (v : ℕ) → isGathered h v ≡ true → h .gathered .held < allOf (h .gathered .last)
   unfolding isGathered
@@ -228,7 +228,7 @@ module _ (h : Holding) (r : Revision) where
         record {
           half = f .half;
           live = f .live;
-          gathered = simp (le-leb (r .version) 31 (y .sound .version), lt-ltb (r .last) limit (y .low), lt-ltb 0 held some, lt-ltb held (allOf (r .last)) few);
+          gathered = simp (le-leb (r .version) 31 (y .sound .version), lt-ltb (r .last) limit (y .low), some-held held (r .last) some few);
           apart = l;
         }
 
@@ -251,22 +251,44 @@ module _ (h : Holding) (r : Revision) where
 
   -- ---- what the answers *live* and *stored* tell of the holding after them
 
+  -- number k is held with this section: it is its own, or it was held before, of the same version
+  abbrev pub HeldWith : (k : ℕ) → Type 0
+  HeldWith k = (k ≡ r .number) ⊎ ((isGathered h (r .version) ≡ true) × (holds (h .gathered .held) k ≡ true))
+
+  held-with : (k : ℕ) → holds (heldWith h r) k ≡ true → HeldWith k
+  held-with k e = go (eqb k (r .number)) refl
+    where
+      go : (b : Bool) → eqb k (r .number) ≡ b → HeldWith k
+      go true q = inl (eqb-true k (r .number) q)
+      go false q = inr (held-before k (eqb-false k (r .number) q) e)
+
+  with-held : (k : ℕ) → HeldWith k → holds (heldWith h r) k ≡ true
+  unfolding heldWith
+  with-held k (inl e) = ap (holds (heldWith h r)) e ∙ held-new
+  with-held k (inr (g, q)) = simp g (holds-kept (h .gathered .held) (2 ^ r .number) k q)
+
   pub record WentLive (v : ℕ) (u : Holding) : Type 0 where
     pub version : v ≡ r .version
     pub new : isLive h (r .version) ≡ false
-    pub complete : (k : ℕ) → k ≤ r .last → holds (heldWith h r) k ≡ true
-    pub holding : u ≡ goneLive h r
+    pub complete : (k : ℕ) → k ≤ r .last → HeldWith k
+    pub live : u .live ≡ record { present = 1; version = r .version; last = r .last }
+    pub gathered : u .gathered ≡ record { present = 0; version = 0; last = 0; held = 0 }
+    pub half : u .half + h .half ≡ 1
 
   pub went-changes : (v : ℕ) (u : Holding) → WentLive v u → u .live ≡ h .live → ⊥
+  unfolding isLive
   went-changes v u w q =
-      let now : isLive u (r .version) ≡ true = rw (w .holding) gone-live in
+      let now : isLive u (r .version) ≡ true = rw (w .live) (same (r .version)) in
       differ (sym now ∙ live-by u h (r .version) q ∙ w .new)
 
   -- "it must be last + 1 less those held"
   pub record Joined (missing : ℕ) (u : Holding) : Type 0 where
     pub some : 1 ≤ missing
     pub sum : missing + ones (u .gathered .held) ≡ r .last + 1
-    pub holding : u ≡ gathering h r (heldWith h r)
+    pub gathered : u .gathered ≡ record { present = 1; version = r .version; last = r .last; held = u .gathered .held }
+    pub held : (k : ℕ) → holds (u .gathered .held) k ≡ true → HeldWith k
+    pub all : (k : ℕ) → HeldWith k → holds (u .gathered .held) k ≡ true
+    pub live : SameLive u h
 
   -- ---- the ways through the step
 
@@ -307,6 +329,16 @@ module _ (h : Holding) (r : Revision) where
       go false false false ea eb ec =
           taken
           (record { ready = record { sound = f; low = leb-false limit (r .last) ea; apart = eb }; new = ec })
+
+  -- refusals 12 and 13
+  pub step-refused : (limit : ℕ) → (limit ≤ r .last) ⊎ (otherLast h r ≡ true) → takesIn (stepOf limit h r .answer) ≡ false
+  unfolding stepOf
+  step-refused limit (inl high) = simp (le-leb limit (r .last) high)
+  step-refused limit (inr other) = go (leb limit (r .last)) refl
+    where
+      go : (b : Bool) → leb limit (r .last) ≡ b → takesIn (stepOf limit h r .answer) ≡ false
+      go true e = simp e
+      go false e = simp (e, other)
 
   step-repeat : (limit : ℕ) → Ready limit → isRepeat h r ≡ true → stepOf limit h r .holding ≡ h
   unfolding stepOf
@@ -352,12 +384,24 @@ module _ (h : Holding) (r : Revision) where
         (λ t. taken-cases limit (λ x. goesLive (x .answer) ≡ false → SameLive (x .holding) h) t
         (λ all no. absurd (differ no)) (λ few _. record { live = refl; half = refl }))
 
+    went-of : (v : ℕ) → v ≡ r .version → isLive h (r .version) ≡ false → heldWith h r ≡ allOf (r .last) → WentLive v (goneLive h r)
+    unfolding goneLive noneGathered
+    went-of v is new all =
+        record {
+          version = is;
+          new = new;
+          complete = λ k le. held-with k (ap (λ (held : ℕ). holds held k) all ∙ holds-all (r .last) k le);
+          live = refl;
+          gathered = refl;
+          half = omega (arith, formed limit h (f .good) .half);
+        }
+
     pub step-went : (v : ℕ) → stepOf limit h r .answer ≡ Live v → WentLive v (stepOf limit h r .holding)
     step-went v =
         step-cases limit (λ x. x .answer ≡ Live v → WentLive v (x .holding)) f
         (λ a no e. absurd (differ (sym (ap takesIn e) ∙ no)))
         (λ t. taken-cases limit (λ x. x .answer ≡ Live v → WentLive v (x .holding)) t
-        (λ all e. record { version = live-of e; new = not-live (t .new); complete = λ k le. ap (λ (held : ℕ). holds held k) all ∙ holds-all (r .last) k le; holding = refl })
+        (λ all e. went-of v (live-of e) (not-live (t .new)) all)
         (λ few e. absurd (differ (sym (ap goesLive e)))))
 
     pub step-stored : (missing : ℕ) → stepOf limit h r .answer ≡ Stored missing → Joined missing (stepOf limit h r .holding)
@@ -370,11 +414,11 @@ module _ (h : Holding) (r : Revision) where
         (λ few e.
         let most : ones (heldWith h r) ≤ r .last = few-held (r .last) (heldWith h r) few in
         let is : missing ≡ r .last + 1 - ones (heldWith h r) = stored-of e in
-        record { some = omega arith; sum = omega arith; holding = refl }))
+        record { some = omega arith; sum = omega arith; gathered = refl; held = held-with; all = with-held; live = record { live = refl; half = refl } }))
 
   -- where all of 0 to last are held with this section, it answers *live*
-  pub step-completes : (limit : ℕ) → Taking limit → ((k : ℕ) → k ≤ r .last → holds (heldWith h r) k ≡ true)
+  pub step-completes : (limit : ℕ) → Taking limit → ((k : ℕ) → k ≤ r .last → HeldWith k)
       → stepOf limit h r ≡ record { answer = Live (r .version); holding = goneLive h r }
   step-completes limit t all =
       taken-cases limit (λ x. x ≡ record { answer = Live (r .version); holding = goneLive h r }) t (λ e. refl)
-      (λ few. absurd (omega (arith, all-held (r .last) (heldWith h r) all)))
+      (λ few. absurd (omega (arith, all-held (r .last) (heldWith h r) (λ k le. with-held k (all k le)))))

@@ -2,7 +2,7 @@
 use Prim.Native.Nat.{ℕ, zero, suc, _≤_}
 use native.Mathlib.Omega.{arith}
 use mathlib.Core.Path.{_≡_, refl, sym, ap, _∙_}
-use mathlib.Core.Bool.{Bool, true, false, _&&_}
+use mathlib.Core.Bool.{Bool, true, false, _&&_, _||_}
 use mathlib.Core.List.{List, _∷_}
 use mathlib.Core.Option.{Option, none, some}
 use lib.ListN.{length, take}
@@ -12,13 +12,24 @@ use Rattle.rules.specs.Descriptors.{counted}
 use Rattle.rules.specs.Layout.{Layout, Numbered, numbered, bare, entry, after, records}
 use Rattle.rules.specs.Section.{given}
 
+pub differ : true ≡ false → ⊥
+differ e = let z : _≡_ {A = ℕ} 0 1 = cc in omega arith
+
 pub both-left : (a b : Bool) → (a && b) ≡ true → a ≡ true
 both-left true b e = refl
 both-left false b e = e
 
 pub both-right : (a b : Bool) → (a && b) ≡ true → b ≡ true
 both-right true b e = e
-both-right false b e = let z : _≡_ {A = ℕ} 0 1 = cc in absurd (omega arith)
+both-right false b e = absurd (differ (sym e))
+
+pub neither-left : (a b : Bool) → (a || b) ≡ false → a ≡ false
+neither-left true b e = e
+neither-left false b e = refl
+
+pub neither-right : (a b : Bool) → (a || b) ≡ false → b ≡ false
+neither-right true b e = absurd (differ e)
+neither-right false b e = e
 
 pub unless-got : {A : Type 0} (t : Bool) (n : ℕ) (g : Got A) (a : A) (rest : List ℕ) → unless t n g ≡ got a rest → (t ≡ true) × (g ≡ got a rest)
 unfolding unless

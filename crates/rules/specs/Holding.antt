@@ -25,9 +25,13 @@ use Rattle.rules.specs.declared.Offered.{Offered}
 -- ---- "The store is lent: 32 places of 1,024 bytes, tables in the order CDS, MMS, VCM, DCM, each with half 0 then half 1,
 -- each half with sections 0 to 3."
 
--- four, for every box
+-- "sections 0 to 3"
+abbrev pub four : ℕ
+four = 4
+
+-- for every box
 unfoldable pub limitOf : State → ℕ
-limitOf s = 4
+limitOf s = four
 
 unfoldable pub tables : ℕ
 tables = 4
@@ -119,11 +123,15 @@ liveFormed limit l =
     (leb (l .version) 31 && ltb (l .last) limit)
     (eqb (l .present) 0 && eqb (l .version) 0 && eqb (l .last) 0)
 
--- refused: the same; gathered numbers empty, complete, or beyond last, which makes them a number above all of 0 to last
+-- refused: gathered numbers empty; complete; beyond last, which is a bit above the last + 1 lowest
+unfoldable pub heldFormed : (held last : ℕ) → Bool
+heldFormed held last = not (eqb held 0) && not (eqb held (allOf last)) && ltb held (2 ^ (last + 1))
+
+-- refused: the same as of the live version; gathered numbers as above; an absent one with a field not zero
 unfoldable pub gatheredFormed : (limit : ℕ) → GatheredVersion → Bool
 gatheredFormed limit g =
     cond (eqb (g .present) 1)
-    (leb (g .version) 31 && ltb (g .last) limit && ltb 0 (g .held) && ltb (g .held) (allOf (g .last)))
+    (leb (g .version) 31 && ltb (g .last) limit && heldFormed (g .held) (g .last))
     (eqb (g .present) 0 && eqb (g .version) 0 && eqb (g .last) 0 && eqb (g .held) 0)
 
 -- live and gathered version equal
@@ -201,8 +209,11 @@ hasMap Vcm = true
 hasMap Dcm = true
 
 -- step 1: 0xC4 with another map number
+unfoldable pub notOurs : State → Table → (map : ℕ) → Bool
+notOurs s t map = hasMap t && not (eqb map (s .map))
+
 unfoldable pub otherMap : State → Content → Bool
-otherMap s c = hasMap (c .table) && not (eqb (c .map) (s .map))
+otherMap s c = notOurs s (c .table) (c .map)
 
 -- the answer, and the state in which that table's holding has moved
 unfoldable pub stepped : State → Table → Stepped → Offered
