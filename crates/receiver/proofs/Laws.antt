@@ -7,7 +7,7 @@ use mathlib.Core.List.{List}
 use lib.ListN.{length}
 use borrow.Author.Tests.{lt-ltb, le-ltb}
 use Rattle.rules.specs.Section.{Content, Reading, wrong, right, readSection, headOf, readAs}
-use Rattle.rules.specs.Holding.{limitOf, tables, storeSize, put, holdingOf, gatheredAt, wellFormed, stepOf, otherMap, offeredAs, offered, takesIn, storeAfter, Box, answerTo, boxAfter}
+use Rattle.rules.specs.Holding.{four, limitOf, tables, storeSize, put, holdingOf, gatheredAt, wellFormed, stepOf, otherMap, offeredAs, offered, takesIn, storeAfter, Box, answerTo, boxAfter}
 use Rattle.rules.specs.declared.State.{State}
 use Rattle.rules.specs.declared.Holding.{Holding}
 use Rattle.rules.specs.declared.Revision.{Revision}
@@ -17,11 +17,11 @@ use Rattle.rules.specs.declared.Answer.the-variants.{Refused}
 use Rattle.rules.specs.declared.Read.the-variants as Read
 use Rattle.rules.proofs.Right.{one-right, reads-right}
 use Rattle.rules.proofs.Offers.{TakenIn, taken-in}
-use Rattle.holding.specs.Given.{limit, stepGiven}
-use Rattle.receiver.specs.Taking.{allPlaces, forOther, answered, Passed}
+use Rattle.holding.specs.Given.{stepGiven}
+use Rattle.receiver.specs.Taking.{answered, Admitted}
 
 -- the answer of a step of a section that reads right
-step-right : (h : Holding) (r : Revision) → r .number ≤ r .last → stepGiven h r ≡ stepOf limit h r
+step-right : (h : Holding) (r : Revision) → r .number ≤ r .last → stepGiven h r ≡ stepOf four h r
 unfolding stepGiven
 step-right h r le = simp (le-ltb (r .last) (r .number) le)
 
@@ -30,12 +30,17 @@ unfolding readAs
 refused-as n s (wrong m) e = let k : m ≡ n = cc in rw k
 refused-as n s (right c) e = let z : _≡_ {A = ℕ} 0 1 = cc in absurd (omega arith)
 
+-- the size of the store as the code has it
+pub all-places : (s : State) → storeSize (limitOf s) ≡ 32768
+unfolding storeSize tables limitOf
+all-places s = refl
+
 -- past checks 1 and 2 and the reader
-pub passed : (s : State) (store section : List ℕ) (head : SectionHead) → allPlaces ≤ length store → wellFormed s ≡ true → Read.Right head ≡ readAs section (readSection section) → Passed s store section head
+pub admitted : (s : State) (store section : List ℕ) (head : SectionHead) → storeSize (limitOf s) ≤ length store → wellFormed s ≡ true → Read.Right head ≡ readAs section (readSection section) → Admitted s store section head
 unfolding readAs
-passed s store section head roomy good e = go (readSection section) refl e
+admitted s store section head roomy good e = go (readSection section) refl e
   where
-    go : (r : Reading) → readSection section ≡ r → Read.Right head ≡ readAs section r → Passed s store section head
+    go : (r : Reading) → readSection section ≡ r → Read.Right head ≡ readAs section r → Admitted s store section head
     go (wrong n) q e = let z : _≡_ {A = ℕ} 0 1 = cc in absurd (omega arith)
     go (right c) q e = record { roomy = roomy; good = good; content = c; reads = q; is = cc }
 
@@ -52,25 +57,25 @@ module _ (s : State) (store section : List ℕ) where
       let e′ : takesIn (offered s (length store) section .answer) ≡ false = sym (ap (λ (x : Offered). takesIn (x .answer)) e) ∙ out in
       record { answer = e; bytes = simp e′ }
 
-  pub short-store : length store < allPlaces → Rule (record { answer = Refused 1; state = s }) store
-  unfolding offered storeSize tables limitOf
-  short-store lt = kept _ (simp (lt-ltb (length store) allPlaces lt)) refl
+  pub short-store : length store < storeSize (limitOf s) → Rule (record { answer = Refused 1; state = s }) store
+  unfolding offered
+  short-store lt = kept _ (simp (lt-ltb (length store) (storeSize (limitOf s)) lt)) refl
 
-  pub not-formed : allPlaces ≤ length store → wellFormed s ≡ false → Rule (record { answer = Refused 2; state = s }) store
-  unfolding offered storeSize tables limitOf
-  not-formed roomy e = kept _ (simp (le-ltb (length store) allPlaces roomy, e)) refl
+  pub not-formed : storeSize (limitOf s) ≤ length store → wellFormed s ≡ false → Rule (record { answer = Refused 2; state = s }) store
+  unfolding offered
+  not-formed roomy e = kept _ (simp (le-ltb (length store) (storeSize (limitOf s)) roomy, e)) refl
 
-  pub refused : allPlaces ≤ length store → wellFormed s ≡ true → (n : ℕ) → Read.Refused n ≡ readAs section (readSection section) → Rule (record { answer = Refused n; state = s }) store
-  unfolding offered offeredAs storeSize tables limitOf
-  refused roomy good n e = kept _ (simp (le-ltb (length store) allPlaces roomy, good, refused-as n section (readSection section) e)) refl
+  pub refused : storeSize (limitOf s) ≤ length store → wellFormed s ≡ true → (n : ℕ) → Read.Refused n ≡ readAs section (readSection section) → Rule (record { answer = Refused n; state = s }) store
+  unfolding offered offeredAs
+  refused roomy good n e = kept _ (simp (le-ltb (length store) (storeSize (limitOf s)) roomy, good, refused-as n section (readSection section) e)) refl
 
-  module _ (head : SectionHead) (p : Passed s store section head) where
+  module _ (head : SectionHead) (p : Admitted s store section head) where
     answers : answered s head ≡ offered s (length store) section
-    unfolding answered forOther offered offeredAs otherMap storeSize tables limitOf headOf
+    unfolding answered offered offeredAs otherMap limitOf headOf
     answers =
         rw (p .is)
         (simp (
-          le-ltb (length store) allPlaces (p .roomy),
+          le-ltb (length store) (storeSize (limitOf s)) (p .roomy),
           p .good,
           p .reads,
           step-right (holdingOf s (p .content .table)) (p .content .revision) (reads-right section (p .content) (p .reads) .made .number),
@@ -81,7 +86,7 @@ module _ (s : State) (store section : List ℕ) where
 
     -- the place of a section that is taken in, which is the one that the rule puts it into
     pub record Place : Type 0 where
-      pub number : head .revision .number < limit
+      pub number : head .revision .number < four
       pub fits : gatheredAt s (head .table) (head .revision .number) + length section ≤ length store
       pub bytes : put store (gatheredAt s (head .table) (head .revision .number)) section ≡ storeAfter s store section
 

@@ -3,10 +3,9 @@
 ghost use mathlib.Core.Path.{_≡_};
 ghost use Prim.Native.Nat.{_+_, _<_, _≤_};
 ghost use lib.ListN.{length};
-ghost use Rattle.rules.specs.Holding.{fresh, wellFormed, indexOf, holdingOf, with, gatheredAt, takesIn, offered, storeAfter};
+ghost use Rattle.rules.specs.Holding.{four, fresh, wellFormed, indexOf, holdingOf, with, gatheredAt, notOurs, takesIn, offered, storeAfter};
 ghost use Rattle.rules.specs.Holding as rule;
-ghost use Rattle.holding.specs.Given.{limit};
-ghost use Rattle.receiver.specs.Taking.{forOther, answered, Passed};
+ghost use Rattle.receiver.specs.Taking.{answered, Admitted};
 use rules::Answer;
 use rules::GatheredVersion;
 use rules::Holding;
@@ -18,7 +17,7 @@ use rules::State;
 use rules::Table;
 
 // Bytes of a place, and of all 32 places: 4 tables, 2 halves, 4 sections.
-pub const PLACE: usize = 1024;
+const PLACE: usize = 1024;
 
 pub const STORE: usize = 32768;
 
@@ -116,7 +115,7 @@ fn index_of(t: Table) -> usize
 
 // Where section n of a table is put: in the other half than the one set.
 fn gathered_at(s: State, t: Table, n: u8) -> usize
-    requires { ⌜ n < limit ⌝ }
+    requires { ⌜ n < four ⌝ }
     ensures { λ x. ⌜ x ≡ gatheredAt s t n ⌝ }
 {
     let h = holding_of(s, t);
@@ -140,7 +139,7 @@ fn put(store: &mut [u8], at: usize, section: &[u8])
 
 // Step 1: 0xC4 has a map number, and it is another one.
 fn is_for_other(s: State, head: SectionHead) -> bool
-    ensures { λ x. ⌜ x ≡ forOther s head ⌝ }
+    ensures { λ x. ⌜ x ≡ notOurs s (head .table) (head .map) ⌝ }
 {
     let t = head.table;
     match t {
@@ -186,7 +185,7 @@ fn answer_to(s: State, head: SectionHead) -> Offered
 
 // A section that reads right, offered to a state and a store that pass checks 1 and 2.
 fn hold(state: State, store: &mut [u8], section: &[u8], head: SectionHead) -> Offered
-    requires { ⌜ Passed state (now store) (now section) head ⌝ }
+    requires { ⌜ Admitted state (now store) (now section) head ⌝ }
     ensures { λ x. ⌜ x ≡ offered state (length (now (store .entry))) (now (section .entry)) ⌝ }
     ensures { λ _. ⌜ now (store .exit) ≡ storeAfter state (now (store .entry)) (now (section .entry)) ⌝ }
 {
@@ -213,19 +212,18 @@ pub fn offer(state: State, store: &mut [u8], section: &[u8]) -> Offered
             state,
         };
     }
-    if well_formed(state) {
-        let read = section::read_section(section);
-        match read {
-            Read::Refused(n) => Offered {
-                answer: Answer::Refused(n),
-                state,
-            },
-            Read::Right(head) => hold(state, store, section, head),
-        }
-    } else {
-        Offered {
+    if !well_formed(state) {
+        return Offered {
             answer: Answer::Refused(2),
             state,
-        }
+        };
+    }
+    let read = section::read_section(section);
+    match read {
+        Read::Refused(n) => Offered {
+            answer: Answer::Refused(n),
+            state,
+        },
+        Read::Right(head) => hold(state, store, section, head),
     }
 }

@@ -1,16 +1,16 @@
 -- What the state says of the store is so: of a box that began fresh, or with any state and store of which it was so, every
--- live place and every held one has the section that it should, whatever is offered. So tuning never meets refusal 16 there.
+-- live place and every held one has the section that it should, whatever is offered. So check 16 passes there.
 use Prim.Native.Nat.{ℕ, zero, suc, _+_, _-_, _<_, _≤_}
 use native.Mathlib.Omega.{arith}
 use mathlib.Core.Path.{_≡_, refl, sym, ap, _∙_}
 use mathlib.Core.Logic.{_⊎_, inl, inr}
-use mathlib.Core.Bool.{Bool, true, false, not}
+use mathlib.Core.Bool.{Bool, true, false, _&&_}
 use mathlib.Core.List.{List, [], _∷_}
 use lib.Dec.{leb, eqb}
 use borrow.Author.Tests.{ltb-true, eqb-true, eqb-false, eq-eqb}
 use Rattle.rules.specs.Section.{Content, right}
 use Rattle.rules.specs.Holding.{limitOf, indexOf, placeOf, sectionAt, holdingOf, liveAt, gatheredAt, noneLive, noneGathered, freshHolding, fresh, holds, isGathered, liveFormed, holdingFormed, heldWith, goneLive, gathering, stepOf, otherMap, takesIn, Box, answerTo, boxAfter, run}
-use Rattle.rules.specs.Tuning.{tableLive, liveCount, liveReading, readsAs, every, placeReads, tableReads}
+use Rattle.rules.specs.Tuning.{tableLive, allLive, liveCount, liveReading, readsAs, every, placeReads, tableReads, allRead}
 use Rattle.rules.specs.declared.Table.{Table}
 use Rattle.rules.specs.declared.Table.the-variants.{Cds, Mms, Vcm, Dcm}
 use Rattle.rules.specs.declared.Holding.{Holding}
@@ -211,9 +211,22 @@ module _ (start : State) (b : Box) (f : FaithfulBox start b) (t : Table) where
       every-so (holdingOf (b .state) t .live .last + 1) (placeReads (b .state) (b .store) t)
       (λ n lt. place-reads n (f .tables t .live (eqb-true (holdingOf (b .state) t .live .present) 1 e) n (omega arith)))
 
--- whatever stood in the store and whatever is offered to a fresh box, the live tables read as what they are
-pub run-reads : (map : ℕ) (store : List ℕ) (sections : List (List ℕ)) (t : Table) → tableLive (run (record { state = fresh map; store = store }) sections .state) t ≡ true
-    → tableReads (run (record { state = fresh map; store = store }) sections .state) (run (record { state = fresh map; store = store }) sections .store) t ≡ true
-run-reads map store sections t =
-    table-reads (fresh map) (run (record { state = fresh map; store = store }) sections)
-    (faithful-run (fresh map) sections (record { state = fresh map; store = store }) (faithful-fresh map store)) t
+-- all four
+pub all-read : (start : State) (b : Box) → FaithfulBox start b → allLive (b .state) ≡ true → allRead (b .state) (b .store) ≡ true
+unfolding allLive allRead
+all-read start b f e =
+    let three = both-left (tableLive (b .state) Cds && tableLive (b .state) Mms && tableLive (b .state) Vcm) _ e in
+    let two = both-left (tableLive (b .state) Cds && tableLive (b .state) Mms) _ three in
+    simp (
+      table-reads start b f Cds (both-left (tableLive (b .state) Cds) _ two),
+      table-reads start b f Mms (both-right (tableLive (b .state) Cds) _ two),
+      table-reads start b f Vcm (both-right (tableLive (b .state) Cds && tableLive (b .state) Mms) _ three),
+      table-reads start b f Dcm (both-right (tableLive (b .state) Cds && tableLive (b .state) Mms && tableLive (b .state) Vcm) _ e),
+    )
+
+-- whatever stood in the store and whatever is offered to a fresh box: once all tables are live, check 16 passes
+pub run-reads : (map : ℕ) (store : List ℕ) (sections : List (List ℕ)) → allLive (run (record { state = fresh map; store = store }) sections .state) ≡ true
+    → allRead (run (record { state = fresh map; store = store }) sections .state) (run (record { state = fresh map; store = store }) sections .store) ≡ true
+run-reads map store sections =
+    all-read (fresh map) (run (record { state = fresh map; store = store }) sections)
+    (faithful-run (fresh map) sections (record { state = fresh map; store = store }) (faithful-fresh map store))

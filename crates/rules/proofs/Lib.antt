@@ -10,6 +10,7 @@ pub mod Held
 pub mod Steps
 pub mod Store
 pub mod Offers
+pub mod LiveRecords
 pub mod GoingLive
 pub mod Promise
 pub mod Faithful

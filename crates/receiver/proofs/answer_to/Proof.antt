@@ -11,7 +11,16 @@ returns c = simp (← c .before .is-for-other .ensures, c .if1 .taken)
 
 returns-2 : tie.Need-returns-2
 unfolding answered stepped
-returns-2 c = simp (← c .before .before .before .before .before .before .is-for-other .ensures, c .before .before .before .before .before .if1 .left, c .with-holding .ensures, c .before .before .step .ensures, c .before .before .before .before .holding-of .ensures)
+returns-2 c =
+    let stepped-by = c .before .before in
+    let held = stepped-by .before .before in
+    simp (
+      ← held .before .before .is-for-other .ensures,
+      held .before .if1 .left,
+      c .with-holding .ensures,
+      stepped-by .step .ensures,
+      held .holding-of .ensures,
+    )
 
 pub answer-to-spec : {M : Type 1} → statement M
 answer-to-spec =

@@ -1,4 +1,4 @@
--- The index is below 4, the half below 2 and the number below 4, so nothing overflows.
+-- The same sum as the rule's; index, half and number are small, so that it does not overflow.
 use Rattle.rules.specs.Holding.{gatheredAt, placeOf, limitOf}
 use borrow.Author.Needs.{needs}
 use Rattle.receiver.proofs.gathered_at.Statement.{statement}

@@ -1,16 +1,31 @@
 -- Each way out is one of the laws: a short store, a state that is not well formed, a section that is refused; what reads right
 -- is held.
+use Prim.Native.Nat.{_<_, _≤_}
 use mathlib.Core.Path.{sym, _∙_}
+use lib.ListN.{length}
 use denote.Ref.{now}
-use Rattle.receiver.proofs.Laws.{passed, short-store, not-formed, refused}
 use borrow.Author.Needs.{needs}
+use borrow.Author.Tests.{not-true, not-false}
+use Rattle.rules.specs.Holding.{limitOf, storeSize}
+use Rattle.receiver.proofs.Laws.{all-places, admitted, short-store, not-formed, refused}
 use Rattle.receiver.proofs.offer.Statement.{statement}
 use Rattle.receiver.proofs.offer.Tie as tie
 
 returns : tie.Need-returns
 returns c =
     let a = c .before .before .before .args in
-    let r = short-store (a .state) (now (a .store)) (now (a .section)) (c .if1 .taken) in
+    let short : length (now (a .store)) < storeSize (limitOf (a .state)) = rw (all-places (a .state)) (c .if1 .taken) in
+    let r = short-store (a .state) (now (a .store)) (now (a .section)) short in
+    (r .answer, r .bytes)
+
+returns-2 : tie.Need-returns-2
+returns-2 c =
+    let f = c .before in
+    let a = f .before .before .before .before .args in
+    let roomy : storeSize (limitOf (a .state)) ≤ length (now (a .store)) = rw (all-places (a .state)) (f .before .if1 .left) in
+    let r =
+        not-formed (a .state) (now (a .store)) (now (a .section)) roomy
+        (sym (f .well-formed .ensures) ∙ not-true (f .well-formed .result) (c .if2 .taken)) in
     (r .answer, r .bytes)
 
 hold-requires : tie.Need-hold-requires
@@ -19,24 +34,20 @@ hold-requires c κs =
     let e = t .before .before in
     let f = e .before .before in
     let a = f .before .before .before .before .args in
-    passed (a .state) (now (a .store)) (now (a .section)) (t .read2 .given .0 .0) (f .before .if1 .left) (sym (f .well-formed .ensures) ∙ e .before .if2 .taken)
-    (sym (t .read2 .given .1) ∙ e .read-section .ensures)
+    let roomy : storeSize (limitOf (a .state)) ≤ length (now (a .store)) = rw (all-places (a .state)) (f .before .if1 .left) in
+    admitted (a .state) (now (a .store)) (now (a .section)) (t .read2 .given .0 .0) roomy
+    (sym (f .well-formed .ensures) ∙ not-false (f .well-formed .result) (e .before .if2 .left)) (sym (t .read2 .given .1) ∙ e .read-section .ensures)
 
-returns-2 : tie.Need-returns-2
-returns-2 c =
+returns-3 : tie.Need-returns-3
+returns-3 c =
     let e = c .before .before .before in
     let f = e .before .before in
     let a = f .before .before .before .before .args in
+    let roomy : storeSize (limitOf (a .state)) ≤ length (now (a .store)) = rw (all-places (a .state)) (f .before .if1 .left) in
     let r =
-    refused (a .state) (now (a .store)) (now (a .section)) (f .before .if1 .left) (sym (f .well-formed .ensures) ∙ e .before .if2 .taken)
-    (c .before .read .given .0 .0) (sym (c .before .read .given .1) ∙ e .read-section .ensures) in
-    (r .answer, r .bytes)
-
-returns-4 : tie.Need-returns-4
-returns-4 c =
-    let a = c .before .before .before .before .before .args in
-    let r =
-    not-formed (a .state) (now (a .store)) (now (a .section)) (c .before .before .if1 .left) (sym (c .before .well-formed .ensures) ∙ c .if2 .left) in
+        refused (a .state) (now (a .store)) (now (a .section)) roomy
+        (sym (f .well-formed .ensures) ∙ not-false (f .well-formed .result) (e .before .if2 .left))
+        (c .before .read .given .0 .0) (sym (c .before .read .given .1) ∙ e .read-section .ensures) in
     (r .answer, r .bytes)
 
 pub offer-spec : {M : Type 1} → statement M
@@ -45,11 +56,11 @@ offer-spec =
     (tie.spec
     returns
     (λ c κs. search needs)
+    returns-2
     (λ c κs. search needs)
     (λ c. search needs)
     (λ c. search needs)
     hold-requires
-    returns-2
+    returns-3
     (λ c. search needs)
-    (λ c. search needs)
-    returns-4)
+    (λ c. search needs))

@@ -6,15 +6,39 @@ use Rattle.receiver.proofs.well_formed.Tie as tie
 
 returns : tie.Need-returns
 unfolding wellFormed limitOf
-returns c = simp (← c .is-formed4 .ensures, c .before .if3 .taken, ← c .before .before .is-formed3 .ensures, c .before .before .before .if2 .taken, ← c .before .before .before .before .is-formed2 .ensures, c .before .before .before .before .before .if1 .taken, ← c .before .before .before .before .before .before .is-formed .ensures)
+returns c =
+    let vcm = c .before in
+    let mms = vcm .before .before in
+    let cds = mms .before .before in
+    simp (
+      ← c .is-formed4 .ensures,
+      vcm .if3 .taken,
+      ← vcm .before .is-formed3 .ensures,
+      mms .if2 .taken,
+      ← mms .before .is-formed2 .ensures,
+      cds .if1 .taken,
+      ← cds .before .is-formed .ensures,
+    )
 
 returns-2 : tie.Need-returns-2
 unfolding wellFormed limitOf
-returns-2 c = simp (c .if3 .left, ← c .before .is-formed3 .ensures, c .before .before .if2 .taken, ← c .before .before .before .is-formed2 .ensures, c .before .before .before .before .if1 .taken, ← c .before .before .before .before .before .is-formed .ensures)
+returns-2 c =
+    let mms = c .before .before in
+    let cds = mms .before .before in
+    simp (
+      c .if3 .left,
+      ← c .before .is-formed3 .ensures,
+      mms .if2 .taken,
+      ← mms .before .is-formed2 .ensures,
+      cds .if1 .taken,
+      ← cds .before .is-formed .ensures,
+    )
 
 returns-3 : tie.Need-returns-3
 unfolding wellFormed limitOf
-returns-3 c = simp (c .if2 .left, ← c .before .is-formed2 .ensures, c .before .before .if1 .taken, ← c .before .before .before .is-formed .ensures)
+returns-3 c =
+    let cds = c .before .before in
+    simp (c .if2 .left, ← c .before .is-formed2 .ensures, cds .if1 .taken, ← cds .before .is-formed .ensures)
 
 returns-4 : tie.Need-returns-4
 unfolding wellFormed limitOf

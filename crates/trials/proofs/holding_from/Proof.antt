@@ -6,7 +6,19 @@ use Rattle.trials.proofs.holding_from.Tie as tie
 
 returns : tie.Need-returns
 unfolding holdingFrom
-returns c = simp (c .byte8 .ensures, c .before .byte7 .ensures, c .before .before .byte6 .ensures, c .before .before .before .byte5 .ensures, c .before .before .before .before .byte4 .ensures, c .before .before .before .before .before .byte3 .ensures, c .before .before .before .before .before .before .byte2 .ensures, c .before .before .before .before .before .before .before .byte .ensures)
+returns c =
+    let fifth = c .before .before .before in
+    let second = fifth .before .before .before in
+    simp (
+      c .byte8 .ensures,
+      c .before .byte7 .ensures,
+      c .before .before .byte6 .ensures,
+      fifth .byte5 .ensures,
+      fifth .before .byte4 .ensures,
+      fifth .before .before .byte3 .ensures,
+      second .byte2 .ensures,
+      second .before .byte .ensures,
+    )
 
 pub holding-from-spec : {M : Type 1} → statement M
 holding-from-spec =
