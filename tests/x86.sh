@@ -11,6 +11,10 @@ need python3 "python3 is not on the PATH"
 
 kit=${RATTLE_HOME:-$(cd "$(dirname "$(readlink -f "$(command -v rt)")")/.." && pwd -P)}
 toolchain=$kit/on/$(uname -m)/toolchain
+[ -d "$toolchain" ] || {
+    printf '%s: the Rattle toolchain in %s has no tools for %s\n' "$0" "$kit" "$(uname -m)" >&2
+    exit 1
+}
 emulator=
 [ -x "$toolchain/bin/qemu-x86_64" ] && emulator=$toolchain/bin/qemu-x86_64
 

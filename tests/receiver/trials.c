@@ -4,6 +4,7 @@
    answer, its number and the state after it, and behind a trial's last section the CRC-32 of the whole store. */
 #include <stdint.h>
 #include <stdio.h>
+#include <string.h>
 
 uint64_t trial_start(uint16_t map, uint32_t part);
 uint64_t trial_offer(const uint8_t *state, size_t state_length, uint8_t *store, size_t store_length, const uint8_t *section,
@@ -11,7 +12,7 @@ uint64_t trial_offer(const uint8_t *state, size_t state_length, uint8_t *store, 
 
 enum { MAP, CDS, DCM = CDS + 3, ANSWER, STATE = 34, HOLDING = 8, MOST_STORE = 65536 };
 
-static uint8_t store[MOST_STORE], other_store[MOST_STORE], section[65535];
+static uint8_t store[MOST_STORE], copied_store[MOST_STORE], section[65535];
 static uint32_t crc_table[256];
 
 static int fail(const char *what) {
@@ -59,11 +60,13 @@ static int starts_fresh(void) {
     return 1;
 }
 
-/* The state's parts are asked for on another store, which is changed and not looked at: only its length matters there. */
+/* One call gives one part. The state's parts are asked for on copies of the store, the answer on the store itself. */
 static int offer(uint8_t *state, size_t store_length, size_t length) {
     uint64_t parts[ANSWER];
-    for (uint32_t part = MAP; part <= DCM; part++)
-        parts[part] = trial_offer(state, STATE, other_store, store_length, section, length, part);
+    for (uint32_t part = MAP; part <= DCM; part++) {
+        memcpy(copied_store, store, store_length);
+        parts[part] = trial_offer(state, STATE, copied_store, store_length, section, length, part);
+    }
     uint64_t answer = trial_offer(state, STATE, store, store_length, section, length, ANSWER);
     if (parts[MAP] > 65535 || answer > 65535)
         return fail("a map number or an answer is above two bytes");

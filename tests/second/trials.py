@@ -240,7 +240,7 @@ def outside(dice):
 
 
 def field_sweep(dice):
-    """Every value of every byte of a table; the table of the four turns with the value."""
+    """Every value of every byte of a table, which is one of the four, drawn."""
     family = 'every value of a byte'
     starts = [('both', BOTH, field) for field in FIELDS]
     starts += [('both, last %d' % last, changed(BOTH, gathered_last=last), 'gathered_held')

@@ -8,7 +8,7 @@ use mathlib.Core.Bool.{Bool, true, false, _&&_}
 use mathlib.Core.List.{List, [], _∷_}
 use lib.Dec.{leb, eqb}
 use borrow.Author.Tests.{ltb-true, eqb-true, eqb-false, eq-eqb}
-use Rattle.rules.specs.Section.{Content, right}
+use Rattle.rules.specs.Section.{Content}
 use Rattle.rules.specs.Holding.{limitOf, indexOf, placeOf, sectionAt, holdingOf, liveAt, gatheredAt, noneLive, noneGathered, freshHolding, fresh, holds, isGathered, liveFormed, holdingFormed, heldWith, goneLive, gathering, stepOf, otherMap, takesIn, Box, answerTo, boxAfter, run}
 use Rattle.rules.specs.Tuning.{tableLive, allLive, liveCount, liveReading, readsAs, every, placeReads, tableReads, allRead}
 use Rattle.rules.specs.declared.Table.{Table}

@@ -1,20 +1,18 @@
 -- "a section of one table leaves the other tables' live records as they were": the records that tuning searches, of every
 -- table whose live version stays, so of every other table, and of the section's own unless it goes live.
-use Prim.Native.Nat.{ℕ, zero, suc, _+_, _<_, _≤_}
+use Prim.Native.Nat.{ℕ, zero, suc, _+_, _<_}
 use native.Mathlib.Omega.{arith}
-use mathlib.Core.Path.{_≡_, refl, sym, ap, _∙_}
+use mathlib.Core.Path.{_≡_, refl, ap, _∙_}
 use mathlib.Core.Bool.{Bool, true, false, _&&_}
-use mathlib.Core.List.{List, _++_}
-use lib.Dec.{leb, ltb, eqb}
-use borrow.Author.Tests.{ltb-true, eqb-true, eqb-false}
+use mathlib.Core.List.{List}
+use lib.Dec.{leb, eqb}
+use borrow.Author.Tests.{ltb-true, eqb-true}
 use Rattle.rules.specs.Section.{Structure, readSection}
-use Rattle.rules.specs.Holding.{limitOf, placeOf, sectionAt, holdingOf, liveAt, liveFormed, takesIn, Box, answerTo, boxAfter}
+use Rattle.rules.specs.Holding.{limitOf, sectionAt, holdingOf, liveAt, liveFormed, takesIn, Box, answerTo, boxAfter}
 use Rattle.rules.specs.Search.{sections}
 use Rattle.rules.specs.Tuning.{liveCount, liveReading, recordsIn, liveSection, liveRecords}
 use Rattle.rules.specs.declared.Table.{Table}
-use Rattle.rules.specs.declared.Holding.{Holding}
 use Rattle.rules.specs.declared.LiveVersion.{LiveVersion}
-use Rattle.rules.specs.declared.State.{State}
 use Rattle.rules.proofs.Taken.{both-right}
 use Rattle.rules.proofs.Steps.{formed, goesLive, SameLive}
 use Rattle.rules.proofs.Store.{same-section}
@@ -58,7 +56,7 @@ module _ {R : Type 0} (records : Structure → List R) (b : Box) (x : List ℕ) 
           let k = taken-in b x e .1 in
           let some : 0 < limitOf (b .state) = omega (arith, k .taking .ready .low) in
           let low = last-low (limitOf (b .state)) (holdingOf (b .state) t .live) some
-                    (formed (limitOf (b .state)) (holdingOf (b .state) t) (table-formed (b .state) t (k .passed .good)) .live) in
+          (formed (limitOf (b .state)) (holdingOf (b .state) t) (table-formed (b .state) t (k .passed .good)) .live) in
           ap (λ (l : LiveVersion). sections (liveSection records (boxAfter b x .state) (boxAfter b x .store) t) (l .last + 1) 0) (same .live)
           ∙ same-sections (liveSection records (boxAfter b x .state) (boxAfter b x .store) t) (liveSection records (b .state) (b .store) t) (holdingOf (b .state) t .live .last + 1) 0
           (λ n lt. section-same n (omega (arith, low)))

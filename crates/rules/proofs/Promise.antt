@@ -10,7 +10,7 @@ use mathlib.Core.List.{List, [], _∷_}
 use lib.Dec.{lit<}
 use lib.ListN.{length-replicate}
 use Rattle.rules.specs.Section.{Content, right, wrong, channels, readSection}
-use Rattle.rules.specs.Holding.{limitOf, storeSize, holdingOf, noneLive, noneGathered, freshHolding, fresh, isLive, isGathered, liveFormed, gatheredFormed, sameVersion, holdingFormed, wellFormed, notOurs, otherMap, run}
+use Rattle.rules.specs.Holding.{limitOf, storeSize, holdingOf, noneLive, noneGathered, freshHolding, fresh, isLive, isGathered, notOurs, otherMap, run}
 use Rattle.rules.specs.Lineup.{freshBox}
 use Rattle.rules.specs.declared.Table.the-variants.{Cds, Vcm}
 use Rattle.rules.proofs.Hex.{hex}
@@ -88,10 +88,13 @@ unfolding computed
 cut-section = refl
 
 none-other : NoneOther (fresh 0) Cds 5 1 others
-none-other =
-    (not-ours _ _ (examples .c12) (λ e. let y : _≡_ {A = ℕ} 0 1 = cc in omega arith),
-    (not-ours _ channelSection other-map (λ e. let y : _≡_ {A = ℕ} 0 1 = cc in omega arith),
-    (not-read 3 _ cut-section, (of-version _ _ (examples .c1 .0) refl, (of-version _ _ first-section refl, tt)))))
+none-other = (
+  not-ours _ _ (examples .c12) (λ e. let y : _≡_ {A = ℕ} 0 1 = cc in omega arith),
+  (
+    not-ours _ channelSection other-map (λ e. let y : _≡_ {A = ℕ} 0 1 = cc in omega arith),
+    (not-read 3 _ cut-section, (of-version _ _ (examples .c1 .0) refl, (of-version _ _ first-section refl, tt))),
+  ),
+)
 
 nothing-known : NoOtherLast 5 1 freshHolding
 unfolding isLive isGathered freshHolding noneLive noneGathered

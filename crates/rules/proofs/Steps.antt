@@ -4,7 +4,7 @@ use Prim.Native.Nat.{ℕ, _+_, _-_, _^_, _<_, _≤_}
 use native.Mathlib.Omega.{arith}
 use mathlib.Core.Path.{_≡_, refl, sym, ap, _∙_}
 use mathlib.Core.Logic.{_⊎_, inl, inr}
-use mathlib.Core.Bool.{Bool, true, false, not, _&&_, _||_}
+use mathlib.Core.Bool.{Bool, true, false, not, _&&_}
 use lib.Dec.{leb, ltb, eqb}
 use lib.Bits.{or-lt}
 use lib.Pow.{pow-pos, pow-lt}
@@ -85,10 +85,11 @@ module _ (limit : ℕ) (h : Holding) where
   unfolding gatheredFormed
   gathered-clauses e there =
       let all : (leb (h .gathered .version) 31 && ltb (h .gathered .last) limit && heldFormed (h .gathered .held) (h .gathered .last)) ≡ true =
-          simp (eq-eqb (h .gathered .present) 1 there) at (formed e .gathered) in
-      let two = both-left (leb (h .gathered .version) 31 && ltb (h .gathered .last) limit) _ all in
-      (ltb-true (h .gathered .last) limit (both-right (leb (h .gathered .version) 31) _ two),
-      held-few (h .gathered .held) (h .gathered .last) (both-right (leb (h .gathered .version) 31 && ltb (h .gathered .last) limit) _ all))
+      simp (eq-eqb (h .gathered .present) 1 there) at (formed e .gathered) in
+      let two = both-left (leb (h .gathered .version) 31 && ltb (h .gathered .last) limit) _ all in (
+        ltb-true (h .gathered .last) limit (both-right (leb (h .gathered .version) 31) _ two),
+        held-few (h .gathered .held) (h .gathered .last) (both-right (leb (h .gathered .version) 31 && ltb (h .gathered .last) limit) _ all),
+      )
 
   pub held-lt : holdingFormed limit h ≡ true → (v : ℕ) → isGathered h v ≡ true → h .gathered .held < allOf (h .gathered .last)
   unfolding isGathered

@@ -1,5 +1,5 @@
 -- From the stages of the reader to the whole section.
-use Prim.Native.Nat.{ℕ, _-_, _≤_, _<_, _%_}
+use Prim.Native.Nat.{ℕ, _≤_, _<_, _%_}
 use native.Mathlib.Omega.{arith}
 use mathlib.Core.Path.{_≡_, refl, sym, ap, _∙_}
 use mathlib.Core.Bool.{true, false, _||_}

@@ -1,5 +1,5 @@
 // For the tests alone, and no part of the box: the receiver behind bytes and numbers, so that C can offer a section to any
-// state with any store and see each part of what comes of it. One call gives one part, on a store of its own.
+// state with any store and see what comes of it. One call gives one part, so a caller lends a copy of the store for each.
 ghost use mathlib.Core.Path.{_≡_};
 ghost use lib.ListN.{length};
 ghost use Rattle.rules.specs.Holding.{fresh, offered, storeAfter};

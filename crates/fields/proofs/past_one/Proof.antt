@@ -1,5 +1,5 @@
 -- The two tests are the two refusals of the rule; where both pass, the length byte says where the next descriptor begins.
-use Prim.Native.Nat.{_+_, _-_}
+use Prim.Native.Nat.{_+_}
 use native.Mathlib.Omega.{arith}
 use borrow.Author.Needs.{needs}
 use Rattle.rules.specs.Bytes.{byte}

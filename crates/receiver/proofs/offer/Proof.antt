@@ -24,8 +24,8 @@ returns-2 c =
     let a = f .before .before .before .before .args in
     let roomy : storeSize (limitOf (a .state)) ≤ length (now (a .store)) = rw (all-places (a .state)) (f .before .if1 .left) in
     let r =
-        not-formed (a .state) (now (a .store)) (now (a .section)) roomy
-        (sym (f .well-formed .ensures) ∙ not-true (f .well-formed .result) (c .if2 .taken)) in
+    not-formed (a .state) (now (a .store)) (now (a .section)) roomy
+    (sym (f .well-formed .ensures) ∙ not-true (f .well-formed .result) (c .if2 .taken)) in
     (r .answer, r .bytes)
 
 hold-requires : tie.Need-hold-requires
@@ -45,9 +45,9 @@ returns-3 c =
     let a = f .before .before .before .before .args in
     let roomy : storeSize (limitOf (a .state)) ≤ length (now (a .store)) = rw (all-places (a .state)) (f .before .if1 .left) in
     let r =
-        refused (a .state) (now (a .store)) (now (a .section)) roomy
-        (sym (f .well-formed .ensures) ∙ not-false (f .well-formed .result) (e .before .if2 .left))
-        (c .before .read .given .0 .0) (sym (c .before .read .given .1) ∙ e .read-section .ensures) in
+    refused (a .state) (now (a .store)) (now (a .section)) roomy
+    (sym (f .well-formed .ensures) ∙ not-false (f .well-formed .result) (e .before .if2 .left))
+    (c .before .read .given .0 .0) (sym (c .before .read .given .1) ∙ e .read-section .ensures) in
     (r .answer, r .bytes)
 
 pub offer-spec : {M : Type 1} → statement M
