@@ -2,23 +2,18 @@
    lowest byte first: for each trial a state of 34 bytes, the length of the store (4 bytes) and a seed for its bytes (1), the
    number of sections (2), and each section with its length (2) in front. Standard output: for each section the kind of the
    answer, its number and the state after it, and behind a trial's last section the CRC-32 of the whole store. */
-#include <stdint.h>
-#include <stdio.h>
+#include "../trials.h"
+
 #include <string.h>
 
 uint64_t trial_start(uint16_t map, uint32_t part);
 uint64_t trial_offer(const uint8_t *state, size_t state_length, uint8_t *store, size_t store_length, const uint8_t *section,
                      size_t section_length, uint32_t part);
 
-enum { MAP, CDS, DCM = CDS + 3, ANSWER, STATE = 34, HOLDING = 8, MOST_STORE = 65536 };
+enum { MAP, CDS, DCM = CDS + 3, ANSWER, HOLDING = 8 };
 
-static uint8_t store[MOST_STORE], copied_store[MOST_STORE], section[65535];
+static uint8_t copied_store[MOST_STORE], section[65535];
 static uint32_t crc_table[256];
-
-static int fail(const char *what) {
-    fprintf(stderr, "trials: %s\n", what);
-    return 1;
-}
 
 static void make_crc_table(void) {
     for (uint32_t i = 0; i < 256; i++) {
@@ -34,18 +29,6 @@ static uint32_t crc_of_store(size_t length) {
     for (size_t i = 0; i < length; i++)
         crc = crc >> 8 ^ crc_table[(crc ^ store[i]) & 255];
     return ~crc;
-}
-
-static uint32_t number(const uint8_t *bytes, int count) {
-    uint32_t n = 0;
-    for (int i = count; i-- > 0;)
-        n = n << 8 | bytes[i];
-    return n;
-}
-
-static void write_number(uint64_t n, int count) {
-    for (int i = 0; i < count; i++)
-        putchar((int)(n >> 8 * i & 255));
 }
 
 /* "Fresh: nothing live, nothing gathered, and the half set to 1", which is the last of a table's eight bytes. */
@@ -88,8 +71,7 @@ static int trial(uint8_t *state) {
     size_t store_length = number(head, 4);
     if (store_length > MOST_STORE)
         return fail("a store is longer than 65,536 bytes");
-    for (size_t i = 0; i < store_length; i++)
-        store[i] = (uint8_t)(head[4] + 31 * i + 17 * (i / 256));
+    fill_store(store_length, head[4]);
     for (uint32_t left = number(head + 5, 2); left > 0; left--) {
         if (fread(two, 1, 2, stdin) != 2)
             return fail("the input ends inside a trial");
@@ -104,15 +86,8 @@ static int trial(uint8_t *state) {
 }
 
 int main(void) {
-    uint8_t state[STATE];
-    size_t got;
     make_crc_table();
     if (!starts_fresh())
         return fail("a state at the start is not fresh");
-    while ((got = fread(state, 1, STATE, stdin)) == STATE)
-        if (trial(state))
-            return 1;
-    if (got != 0)
-        return fail("the input ends inside a state");
-    return fflush(stdout) != 0;
+    return all_trials(trial);
 }

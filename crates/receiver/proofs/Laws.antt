@@ -7,7 +7,7 @@ use mathlib.Core.List.{List}
 use lib.ListN.{length}
 use borrow.Author.Tests.{lt-ltb, le-ltb}
 use Rattle.rules.specs.Section.{Content, Reading, wrong, right, readSection, headOf, readAs}
-use Rattle.rules.specs.Holding.{four, limitOf, tables, storeSize, put, holdingOf, gatheredAt, wellFormed, stepOf, otherMap, offeredAs, offered, takesIn, storeAfter, Box, answerTo, boxAfter}
+use Rattle.rules.specs.Holding.{four, limitOf, storeSize, put, holdingOf, gatheredAt, wellFormed, stepOf, otherMap, offeredAs, offered, takesIn, storeAfter, Box, answerTo, boxAfter}
 use Rattle.rules.specs.declared.State.{State}
 use Rattle.rules.specs.declared.Holding.{Holding}
 use Rattle.rules.specs.declared.Revision.{Revision}
@@ -29,11 +29,6 @@ refused-as : (n : ℕ) (s : List ℕ) (r : Reading) → Read.Refused n ≡ readA
 unfolding readAs
 refused-as n s (wrong m) e = let k : m ≡ n = cc in rw k
 refused-as n s (right c) e = let z : _≡_ {A = ℕ} 0 1 = cc in absurd (omega arith)
-
--- the size of the store as the code has it
-pub all-places : (s : State) → storeSize (limitOf s) ≡ 32768
-unfolding storeSize tables limitOf
-all-places s = refl
 
 -- past checks 1 and 2 and the reader
 pub admitted : (s : State) (store section : List ℕ) (head : SectionHead) → storeSize (limitOf s) ≤ length store → wellFormed s ≡ true → Read.Right head ≡ readAs section (readSection section) → Admitted s store section head
@@ -86,7 +81,6 @@ module _ (s : State) (store section : List ℕ) where
 
     -- the place of a section that is taken in, which is the one that the rule puts it into
     pub record Place : Type 0 where
-      pub number : head .revision .number < four
       pub fits : gatheredAt s (head .table) (head .revision .number) + length section ≤ length store
       pub bytes : put store (gatheredAt s (head .table) (head .revision .number)) section ≡ storeAfter s store section
 
@@ -100,14 +94,10 @@ module _ (s : State) (store section : List ℕ) where
         go : (c : Content) → TakenIn b section c → Place
         go c k =
             let same : c ≡ p .content = one-right (sym (k .passed .reads) ∙ p .reads) in
-            let number : head .revision .number ≡ c .revision .number = ap (λ (h : SectionHead). h .revision .number) (p .is) ∙ sym (ap (λ (x : Content). x .revision .number) same) in
             let at : gatheredAt s (head .table) (head .revision .number) ≡ gatheredAt s (c .table) (c .revision .number) =
             ap (λ (h : SectionHead). gatheredAt s (h .table) (h .revision .number)) (p .is)
             ∙ sym (ap (λ (x : Content). gatheredAt s (x .table) (x .revision .number)) same) in
-            let low = k .taking .ready .low in
-            let le = k .taking .ready .sound .number in
             record {
-              number = omega arith;
               fits = rw at (k .fits);
               bytes = ap (λ (n : ℕ). put store n section) at ∙ sym (k .stored);
             }

@@ -1,9 +1,9 @@
 // Holding and going live: the state of a box by value, the store that is lent with it, and what an offered section does to
 // both. Refusals 1 and 2, the reader's 3 to 11, 12 and 13; other map, repeat, stored and live.
 ghost use mathlib.Core.Path.{_≡_};
-ghost use Prim.Native.Nat.{_+_, _<_, _≤_};
+ghost use Prim.Native.Nat.{_+_, _≤_};
 ghost use lib.ListN.{length};
-ghost use Rattle.rules.specs.Holding.{four, fresh, wellFormed, indexOf, holdingOf, with, gatheredAt, notOurs, takesIn, offered, storeAfter};
+ghost use Rattle.rules.specs.Holding.{fresh, with, gatheredAt, takesIn, offered, storeAfter};
 ghost use Rattle.rules.specs.Holding as rule;
 ghost use Rattle.receiver.specs.Taking.{answered, Admitted};
 use rules::Answer;
@@ -15,11 +15,6 @@ use rules::Read;
 use rules::SectionHead;
 use rules::State;
 use rules::Table;
-
-// Bytes of a place, and of all 32 places: 4 tables, 2 halves, 4 sections.
-const PLACE: usize = 1024;
-
-pub const STORE: usize = 32768;
 
 // ---- the state
 
@@ -50,30 +45,6 @@ pub fn start(map: u16) -> State
     }
 }
 
-// Whether a state is well formed: else 2.
-pub fn well_formed(s: State) -> bool
-    ensures { λ x. ⌜ x ≡ wellFormed s ⌝ }
-{
-    if holding::is_formed(s.cds) {
-        if holding::is_formed(s.mms) {
-            return holding::is_formed(s.vcm) && holding::is_formed(s.dcm);
-        }
-        return false;
-    }
-    false
-}
-
-fn holding_of(s: State, t: Table) -> Holding
-    ensures { λ x. ⌜ x ≡ holdingOf s t ⌝ }
-{
-    match t {
-        Table::Cds => s.cds,
-        Table::Mms => s.mms,
-        Table::Vcm => s.vcm,
-        Table::Dcm => s.dcm,
-    }
-}
-
 // The state with another holding for one table, and the others as they were.
 fn with_holding(s: State, t: Table, h: Holding) -> State
     ensures { λ x. ⌜ x ≡ with s t h ⌝ }
@@ -101,26 +72,13 @@ fn with_holding(s: State, t: Table, h: Holding) -> State
 
 // ---- the store
 
-fn index_of(t: Table) -> usize
-    ensures { λ x. ⌜ x ≡ indexOf t ⌝ }
-    ensures { λ x. ⌜ x < 4 ⌝ }
-{
-    match t {
-        Table::Cds => 0,
-        Table::Mms => 1,
-        Table::Vcm => 2,
-        Table::Dcm => 3,
-    }
-}
-
 // Where section n of a table is put: in the other half than the one set.
 fn gathered_at(s: State, t: Table, n: u8) -> usize
-    requires { ⌜ n < four ⌝ }
     ensures { λ x. ⌜ x ≡ gatheredAt s t n ⌝ }
 {
-    let h = holding_of(s, t);
+    let h = state::holding_of(s, t);
     let half = holding::gathering_half(h);
-    ((index_of(t) * 2 + half as usize) * holding::LIMIT as usize + n as usize) * PLACE
+    state::place_of(t, half, n)
 }
 
 // A section's bytes put at the front of a place; every other byte of the store stays.
@@ -136,19 +94,6 @@ fn put(store: &mut [u8], at: usize, section: &[u8])
 }
 
 // ---- an offer
-
-// Step 1: 0xC4 has a map number, and it is another one.
-fn is_for_other(s: State, head: SectionHead) -> bool
-    ensures { λ x. ⌜ x ≡ notOurs s (head .table) (head .map) ⌝ }
-{
-    let t = head.table;
-    match t {
-        Table::Cds => false,
-        Table::Mms => false,
-        Table::Vcm => head.map != s.map,
-        Table::Dcm => head.map != s.map,
-    }
-}
 
 // The answers of steps 5 and 6.
 fn takes_in(a: Answer) -> bool
@@ -167,14 +112,15 @@ fn takes_in(a: Answer) -> bool
 fn answer_to(s: State, head: SectionHead) -> Offered
     ensures { λ x. ⌜ x ≡ answered s head ⌝ }
 {
-    if is_for_other(s, head) {
+    let t = head.table;
+    // step 1
+    if state::is_for_other(s, t, head.map) {
         return Offered {
             answer: Answer::OtherMap,
             state: s,
         };
     }
-    let t = head.table;
-    let h = holding_of(s, t);
+    let h = state::holding_of(s, t);
     let r = head.revision;
     let stepped = holding::step(h, r);
     let answer = stepped.answer;
@@ -206,13 +152,13 @@ pub fn offer(state: State, store: &mut [u8], section: &[u8]) -> Offered
     ensures { λ x. ⌜ x ≡ offered state (length (now (store .entry))) (now (section .entry)) ⌝ }
     ensures { λ _. ⌜ now (store .exit) ≡ storeAfter state (now (store .entry)) (now (section .entry)) ⌝ }
 {
-    if store.len() < STORE {
+    if store.len() < state::STORE {
         return Offered {
             answer: Answer::Refused(1),
             state,
         };
     }
-    if !well_formed(state) {
+    if !state::well_formed(state) {
         return Offered {
             answer: Answer::Refused(2),
             state,

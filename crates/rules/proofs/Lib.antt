@@ -15,3 +15,5 @@ pub mod GoingLive
 pub mod Promise
 pub mod Faithful
 pub mod Asking
+pub mod Search
+pub mod Tunes

@@ -25,7 +25,7 @@ same-sections f g zero i e = refl
 same-sections f g (suc n) i e = rw (e i (omega arith), same-sections f g n (i + 1) (λ k lt. e k (omega arith))) refl
 
 -- the last number of a well-formed live version, or of none, is below the limit
-last-low : (limit : ℕ) (l : LiveVersion) → 0 < limit → liveFormed limit l ≡ true → l .last < limit
+pub last-low : (limit : ℕ) (l : LiveVersion) → 0 < limit → liveFormed limit l ≡ true → l .last < limit
 unfolding liveFormed
 last-low limit l some e = go (eqb (l .present) 1) refl
   where

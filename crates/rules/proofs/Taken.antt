@@ -9,7 +9,7 @@ use lib.ListN.{length, take}
 use borrow.Author.Tests.{le-leb, leb-true}
 use Rattle.rules.specs.Bytes.{Got, refused, got, unless, andThen, giving, from}
 use Rattle.rules.specs.Descriptors.{counted}
-use Rattle.rules.specs.Layout.{Layout, Numbered, numbered, bare, entry, after, records}
+use Rattle.rules.specs.Layout.{Layout, Numbered, numbered, bare, entry, after, records, head}
 use Rattle.rules.specs.Section.{given}
 
 pub differ : true ≡ false → ⊥
@@ -75,6 +75,14 @@ module _ {R : Type 0} (l : Layout R) where
       let c = unless-got _ _ _ _ _ (b .1) in
       let d = c .1 in
       (leb-true _ _ (a .0), b .0, c .0, cc, cc)
+
+  -- a head that was got has its own bytes, and what is left stands behind them
+  pub head-got : (bs : List ℕ) (h : R) (rest : List ℕ) → head l bs ≡ got h rest → (l .size ≤ length bs) × (h ≡ l .look (take (l .size) bs)) × (rest ≡ from bs (l .size))
+  unfolding head numbered
+  head-got bs h rest e =
+      let g = giving-got _ _ _ _ e in
+      let t = bare-got 0 bs (g .0) rest (g .1) in
+      (t .0, g .2 ∙ ap (λ (n : Numbered R). n .what) (t .3), t .4)
 
   pub taken : (index : ℕ) (bs : List ℕ) (e : Numbered R) (rest : List ℕ) → entry l index bs ≡ got e rest → Taken l index bs e rest
   unfolding entry

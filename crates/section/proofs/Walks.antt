@@ -16,7 +16,7 @@ use Rattle.rules.specs.declared.Table.{Table}
 use Rattle.rules.specs.declared.Table.the-variants.{Cds, Mms, Vcm, Dcm}
 use Rattle.rules.specs.declared.VcmHead.{VcmHead}
 use Rattle.rules.specs.declared.DcmHead.{DcmHead}
-use Rattle.rules.proofs.Taken.{both-right, giving-got, bare-got, records-count}
+use Rattle.rules.proofs.Taken.{both-right, giving-got, head-got, records-count}
 use Rattle.rules.proofs.Places.{from-from, from-length}
 use Rattle.fields.specs.Place.{leftOf, Stands}
 use Rattle.fields.specs.declared.Skip.{Skip}
@@ -71,13 +71,11 @@ abbrev outlined : Table → List ℕ → Outline → Type 0
 outlined t b (outline.Refused n) = structure t b ≡ refused n
 outlined t b (outline.Records k start first count) = Area t b k start first count
 
--- a head that was got has its bytes, and what is left stands behind them
+-- what a head leaves stands behind its bytes
 head-place : {R : Type 0} (l : Layout R) (b : List ℕ) (h : R) (rest : List ℕ) → 7 ≤ length b → head l (from b 7) ≡ got h rest → (rest ≡ from b (7 + l .size)) × (7 + l .size ≤ length b)
-unfolding head
 head-place l b h rest w e =
-    let g = giving-got _ _ _ _ e in
-    let t = bare-got l 0 (from b 7) (g .0) rest (g .1) in
-    (t .4 ∙ from-from b 7 (l .size), omega (arith, t .0, from-length b 7))
+    let t = head-got l (from b 7) h rest e in
+    (t .2 ∙ from-from b 7 (l .size), omega (arith, t .0, from-length b 7))
 
 module _ {R : Type 0} (f : R → Outline) (g : Got R) where
   pub headed-no : (n : ℕ) → g ≡ refused n → outline.Refused n ≡ headed f g

@@ -19,8 +19,8 @@ mod header; // the table that a section is of
 mod structure; // the records of every table
 mod closing; // the closing list
 
-// L, which counts all that follows the first three bytes.
-fn length_of(s: &[u8]) -> u16
+// L, which counts all that follows the first three bytes; a section takes 3 + L bytes.
+pub fn length_of(s: &[u8]) -> u16
     ensures { λ r. ⌜ r ≡ lengthOf (now (s .entry)) ⌝ }
 {
     let high = fields::byte(s, 1);

@@ -95,7 +95,7 @@ fn main() {
         write(b"trace=refused\n");
         return;
     }
-    let mut store = [0u8; receiver::STORE];
+    let mut store = [0u8; state::STORE];
     let mut buffer = [0u8; LONGEST];
     follow(
         receiver::start(map_of(map[0], map[1])),

@@ -1,14 +1,17 @@
--- A state as bytes, and answers and states as numbers.
+-- A state as bytes, and states and answers as numbers.
 use Prim.Native.Nat.{ℕ, _+_, _*_}
 use mathlib.Core.Bool.{cond}
 use mathlib.Core.List.{List}
 use lib.Dec.{eqb}
 use Rattle.rules.specs.Bytes.{byte}
 use Rattle.rules.specs.declared.Holding.{Holding}
+use Rattle.rules.specs.declared.Mode.{Mode}
 use Rattle.rules.specs.declared.State.{State}
 use Rattle.rules.specs.declared.Offered.{Offered}
 use Rattle.rules.specs.declared.Answer.{Answer}
 use Rattle.rules.specs.declared.Answer.the-variants.{Refused, OtherMap, Repeat, Stored, Live}
+use Rattle.rules.specs.declared.Tuned.{Tuned}
+use Rattle.rules.specs.declared.Tuned.the-variants as Tuned
 
 -- eight bytes for a table: live present, version, last; gathered present, version, last, held; half
 unfoldable pub holdingFrom : List ℕ → (at : ℕ) → Holding
@@ -63,3 +66,41 @@ answerNumber (Live v) = 4 + v * 256
 -- part 5 is the answer
 unfoldable pub offeredPart : Offered → (part : ℕ) → ℕ
 offeredPart o part = cond (eqb part 5) (answerNumber (o .answer)) (statePart (o .state) part)
+
+-- ---- what a channel is tuned to
+
+-- a kind, two bytes, and a frequency in kHz from bit 32 on
+unfoldable pub headNumber : (kind hidden path khz : ℕ) → ℕ
+headNumber kind hidden path khz = kind + hidden * 0x100 + path * 0x10000 + khz * 0x100000000
+
+-- part 0: the kind of the answer with hidden, path and frequency; with the number of the refusal
+unfoldable pub tunedHead : Tuned → ℕ
+tunedHead (Tuned.Refused n) = headNumber 0 n 0 0
+tunedHead (Tuned.Digital hidden path khz program mode) = headNumber 1 hidden path khz
+tunedHead (Tuned.Analogue hidden path khz standard scrambled) = headNumber 2 hidden path khz
+tunedHead (Tuned.Application hidden path number) = headNumber 3 hidden path 0
+
+-- a programme, and a mode without its symbols
+unfoldable pub digitalNumber : (program : ℕ) → Mode → ℕ
+digitalNumber program m =
+    program + m .system * 0x10000 + m .inner * 0x1000000 + m .split * 0x100000000 + m .format * 0x10000000000
+
+-- part 1: programme and mode; standard and scrambled; application number
+unfoldable pub tunedRest : Tuned → ℕ
+tunedRest (Tuned.Refused n) = 0
+tunedRest (Tuned.Digital hidden path khz program mode) = digitalNumber program mode
+tunedRest (Tuned.Analogue hidden path khz standard scrambled) = standard + scrambled * 0x100
+tunedRest (Tuned.Application hidden path number) = number
+
+-- part 2
+unfoldable pub tunedSymbols : Tuned → ℕ
+tunedSymbols (Tuned.Refused n) = 0
+tunedSymbols (Tuned.Digital hidden path khz program mode) = mode .symbols
+tunedSymbols (Tuned.Analogue hidden path khz standard scrambled) = 0
+tunedSymbols (Tuned.Application hidden path number) = 0
+
+unfoldable pub tunedPart : Tuned → (part : ℕ) → ℕ
+tunedPart t part =
+    cond (eqb part 0) (tunedHead t)
+    (cond (eqb part 1) (tunedRest t)
+    (cond (eqb part 2) (tunedSymbols t) 0))

@@ -1,15 +1,19 @@
-// For the tests alone, and no part of the box: the receiver behind bytes and numbers, so that C can offer a section to any
-// state with any store and see what comes of it. One call gives one part, so a caller lends a copy of the store for each.
+// For the tests alone, and no part of the box: the receiver and the tuner behind bytes and numbers, so that C can offer a
+// section to any state with any store, or ask any channel of them, and see what comes of it. One call gives one part, so a
+// caller of trial_offer lends a copy of the store for each.
 ghost use mathlib.Core.Path.{_≡_};
 ghost use lib.ListN.{length};
 ghost use Rattle.rules.specs.Holding.{fresh, offered, storeAfter};
-ghost use Rattle.trials.specs.Coded.{holdingFrom, stateFrom, holdingNumber, statePart, answerNumber, offeredPart};
+ghost use Rattle.rules.specs.Tuning.{tune};
+ghost use Rattle.trials.specs.Coded.{holdingFrom, stateFrom, holdingNumber, statePart, answerNumber, offeredPart, headNumber, digitalNumber, tunedHead, tunedRest, tunedSymbols, tunedPart};
 use rules::Answer;
 use rules::GatheredVersion;
 use rules::Holding;
 use rules::LiveVersion;
+use rules::Mode;
 use rules::Offered;
 use rules::State;
+use rules::Tuned;
 
 fn holding_from(b: &[u8], at: u8) -> Holding
     ensures { λ x. ⌜ x ≡ holdingFrom (now (b .entry)) at ⌝ }
@@ -114,4 +118,124 @@ pub extern "C" fn trial_offer(state: &[u8], store: &mut [u8], section: &[u8], pa
     let given = state_from(state);
     let offered = receiver::offer(given, store, section);
     offered_part(offered, part)
+}
+
+// ---- tuning
+
+fn head_number(kind: u8, hidden: u8, path: u8, khz: u32) -> u64
+    ensures { λ x. ⌜ x ≡ headNumber kind hidden path khz ⌝ }
+{
+    kind as u64 + hidden as u64 * 0x100 + path as u64 * 0x10000 + khz as u64 * 0x100000000
+}
+
+fn tuned_head(t: Tuned) -> u64
+    ensures { λ x. ⌜ x ≡ tunedHead t ⌝ }
+{
+    match t {
+        Tuned::Refused(n) => head_number(0, n, 0, 0),
+        Tuned::Digital {
+            hidden,
+            path,
+            khz,
+            program: _,
+            mode: _,
+        } => head_number(1, hidden, path, khz),
+        Tuned::Analogue {
+            hidden,
+            path,
+            khz,
+            standard: _,
+            scrambled: _,
+        } => head_number(2, hidden, path, khz),
+        Tuned::Application {
+            hidden,
+            path,
+            number: _,
+        } => head_number(3, hidden, path, 0),
+    }
+}
+
+fn digital_number(program: u16, m: Mode) -> u64
+    ensures { λ x. ⌜ x ≡ digitalNumber program m ⌝ }
+{
+    program as u64
+        + m.system as u64 * 0x10000
+        + m.inner as u64 * 0x1000000
+        + m.split as u64 * 0x100000000
+        + m.format as u64 * 0x10000000000
+}
+
+fn tuned_rest(t: Tuned) -> u64
+    ensures { λ x. ⌜ x ≡ tunedRest t ⌝ }
+{
+    match t {
+        Tuned::Refused(_) => 0,
+        Tuned::Digital {
+            hidden: _,
+            path: _,
+            khz: _,
+            program,
+            mode,
+        } => digital_number(program, mode),
+        Tuned::Analogue {
+            hidden: _,
+            path: _,
+            khz: _,
+            standard,
+            scrambled,
+        } => standard as u64 + scrambled as u64 * 0x100,
+        Tuned::Application {
+            hidden: _,
+            path: _,
+            number,
+        } => number as u64,
+    }
+}
+
+fn tuned_symbols(t: Tuned) -> u64
+    ensures { λ x. ⌜ x ≡ tunedSymbols t ⌝ }
+{
+    match t {
+        Tuned::Refused(_) => 0,
+        Tuned::Digital {
+            hidden: _,
+            path: _,
+            khz: _,
+            program: _,
+            mode,
+        } => mode.symbols as u64,
+        Tuned::Analogue {
+            hidden: _,
+            path: _,
+            khz: _,
+            standard: _,
+            scrambled: _,
+        } => 0,
+        Tuned::Application {
+            hidden: _,
+            path: _,
+            number: _,
+        } => 0,
+    }
+}
+
+fn tuned_part(t: Tuned, part: u32) -> u64
+    ensures { λ x. ⌜ x ≡ tunedPart t part ⌝ }
+{
+    match part {
+        0 => tuned_head(t),
+        1 => tuned_rest(t),
+        2 => tuned_symbols(t),
+        _ => 0,
+    }
+}
+
+// Asks a channel of a state of 34 bytes with a store, and gives a part of the answer.
+#[no_mangle]
+pub extern "C" fn trial_tune(state: &[u8], store: &[u8], channel: u16, part: u32) -> u64
+    ensures { λ x. ⌜ x ≡ tunedPart (tune (stateFrom (now (state .entry))) (now (store .entry)) channel) part ⌝ }
+{
+    let given = state_from(state);
+    let tuned = tuner::tune(given, store, channel);
+    tuned_part(tuned, part)
 }

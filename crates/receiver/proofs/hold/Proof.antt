@@ -6,13 +6,6 @@ use borrow.Author.Needs.{needs}
 use Rattle.receiver.proofs.hold.Statement.{statement}
 use Rattle.receiver.proofs.hold.Tie as tie
 
-gathered-at-requires : tie.Need-gathered-at-requires
-gathered-at-requires c κs =
-    let a = c .before .before .before .before .before .args in
-    let o = c .before .before .answer-to in
-    place (a .state) (now (a .store)) (now (a .section)) (a .head) (c .before .before .before .before .before .pre) (o .result) (o .ensures)
-    (sym (c .before .takes-in .ensures) ∙ c .if1 .taken) .number
-
 put-requires : tie.Need-put-requires
 put-requires c κs =
     let t = c .before .before in
@@ -48,7 +41,7 @@ hold-spec =
     (tie.spec
     (λ c κs. search needs)
     (λ c κs. search needs)
-    gathered-at-requires
+    (λ c κs. search needs)
     put-requires
     (λ c. search needs)
     returns

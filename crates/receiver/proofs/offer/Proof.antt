@@ -7,7 +7,8 @@ use denote.Ref.{now}
 use borrow.Author.Needs.{needs}
 use borrow.Author.Tests.{not-true, not-false}
 use Rattle.rules.specs.Holding.{limitOf, storeSize}
-use Rattle.receiver.proofs.Laws.{all-places, admitted, short-store, not-formed, refused}
+use Rattle.state.proofs.Laws.{all-places}
+use Rattle.receiver.proofs.Laws.{admitted, short-store, not-formed, refused}
 use Rattle.receiver.proofs.offer.Statement.{statement}
 use Rattle.receiver.proofs.offer.Tie as tie
 

@@ -1,8 +1,8 @@
 -- Table by table, in the order of the rule.
 use Rattle.rules.specs.Holding.{wellFormed, limitOf}
 use borrow.Author.Needs.{needs}
-use Rattle.receiver.proofs.well_formed.Statement.{statement}
-use Rattle.receiver.proofs.well_formed.Tie as tie
+use Rattle.state.proofs.well_formed.Statement.{statement}
+use Rattle.state.proofs.well_formed.Tie as tie
 
 returns : tie.Need-returns
 unfolding wellFormed limitOf

@@ -1,8 +1,8 @@
 -- Only VCM and DCM have a map number.
 use Rattle.rules.specs.Holding.{notOurs}
 use borrow.Author.Needs.{needs}
-use Rattle.receiver.proofs.is_for_other.Statement.{statement}
-use Rattle.receiver.proofs.is_for_other.Tie as tie
+use Rattle.state.proofs.is_for_other.Statement.{statement}
+use Rattle.state.proofs.is_for_other.Tie as tie
 
 returns : tie.Need-returns
 unfolding notOurs
@@ -14,11 +14,11 @@ returns-2 c = simp (c .enum-told2 .given .1)
 
 returns-3 : tie.Need-returns-3
 unfolding notOurs
-returns-3 c = simp (c .before .before .enum-told3 .given .1)
+returns-3 c = simp (c .before .enum-told3 .given .1)
 
 returns-4 : tie.Need-returns-4
 unfolding notOurs
-returns-4 c = simp (c .before .before .enum-told4 .given .1)
+returns-4 c = simp (c .before .enum-told4 .given .1)
 
 pub is-for-other-spec : {M : Type 1} → statement M
 is-for-other-spec =

@@ -1,0 +1,89 @@
+-- The bridge from the records of a section that reads right to the walk of the searches: a live place that passed check 16 reads
+-- right as its table, so its records are those that the walk goes over. Proved once, over the table.
+use Prim.Native.Nat.{ℕ, zero, suc, _<_}
+use native.Mathlib.Omega.{arith}
+use mathlib.Core.Path.{_≡_, refl, sym, ap, _∙_}
+use mathlib.Core.Bool.{Bool, true, false}
+use mathlib.Core.List.{List}
+use mathlib.Core.Option.{Option}
+use lib.ListN.{length}
+use lib.Dec.{eqb}
+use borrow.Author.Tests.{eqb-true, eqb-false}
+use Rattle.rules.specs.Bytes.{Got, got, from}
+use Rattle.rules.specs.Layout.{Numbered, records}
+use Rattle.rules.specs.Tables.{vcmHead, vcm, dcmHead, dcm}
+use Rattle.rules.specs.Section.{Structure, structure, Content, Reading, wrong, right, withoutCrc, readSection, recordsAt}
+use Rattle.rules.specs.Holding.{indexOf, sectionAt, holdingOf, liveAt}
+use Rattle.rules.specs.Tuning.{liveCount, liveReading, readsAs, every, placeReads, tableReads, recordsIn, liveSection, carriersIn, modesIn, channelsIn, rangesIn}
+use Rattle.rules.specs.declared.Table.{Table}
+use Rattle.rules.specs.declared.Table.the-variants.{Cds, Mms, Vcm, Dcm}
+use Rattle.rules.specs.declared.State.{State}
+use Rattle.rules.specs.declared.VcmHead.{VcmHead}
+use Rattle.rules.specs.declared.DcmHead.{DcmHead}
+use Rattle.rules.proofs.Taken.{differ, both-left, both-right, then-got, giving-got, head-got}
+use Rattle.rules.proofs.Places.{from-from}
+use Rattle.rules.proofs.Right.{reads-right}
+use Rattle.rules.proofs.Search.{Before, Within, enter}
+use Rattle.rules.proofs.Store.{same-index}
+use Rattle.search.specs.Live.{Live, RecordOf, layoutOf, recordsOf, walkOf}
+use Rattle.search.specs.declared.Walk.{Walk}
+
+-- what is read behind a head that was got
+behind-head : {H A : Type 0} (f : H → List ℕ → Got A) (h k : H) (x y : List ℕ) (g : Got A) → h ≡ k → x ≡ y → f h x ≡ g → f k y ≡ g
+behind-head {H} f h k x y g e q p = sym (ap (λ (z : H). f z y) e) ∙ sym (ap (f h) q) ∙ p
+
+-- the records of a structure stand where the walk begins
+walk-reads : (t : Table) (bs : List ℕ) (x : Structure) (tail : List ℕ) → structure t bs ≡ got x tail
+    → let w = walkOf t bs in records (layoutOf t (w .included)) (w .count) (w .index) (from bs (w .at)) ≡ got (recordsOf t x) tail
+unfolding structure walkOf recordsAt carriersIn modesIn channelsIn rangesIn vcmHead dcmHead
+walk-reads Cds bs x tail e = let g = giving-got _ _ _ _ e in g .1 ∙ ap (λ (y : Structure). got (carriersIn y) tail) (sym (g .2))
+walk-reads Mms bs x tail e = let g = giving-got _ _ _ _ e in g .1 ∙ ap (λ (y : Structure). got (modesIn y) tail) (sym (g .2))
+walk-reads Vcm bs x tail e =
+    let h = then-got _ _ _ _ e in
+    let g = giving-got _ _ _ _ (h .more) in
+    let k = head-got vcmHead (from bs 7) (h .value) (h .behind) (h .one) in
+    behind-head (λ (v : VcmHead) rest. records (vcm (v .included)) (v .count) 0 rest) (h .value) _ (h .behind) _ _ (k .1) (k .2 ∙ from-from bs 7 7)
+    (g .1 ∙ ap (λ (y : Structure). got (channelsIn y) tail) (sym (g .2)))
+walk-reads Dcm bs x tail e =
+    let h = then-got _ _ _ _ e in
+    let g = giving-got _ _ _ _ (h .more) in
+    let k = head-got dcmHead (from bs 7) (h .value) (h .behind) (h .one) in
+    behind-head (λ (v : DcmHead) rest. records dcm (v .length) (v .first) rest) (h .value) _ (h .behind) _ _ (k .1) (k .2 ∙ from-from bs 7 3)
+    (g .1 ∙ ap (λ (y : Structure). got (rangesIn y) tail) (sym (g .2)))
+
+-- each live place reads right as its table
+every-at : (n : ℕ) (test : ℕ → Bool) → every n test ≡ true → (k : ℕ) → k < n → test k ≡ true
+unfolding every
+every-at zero test e k lt = absurd (omega arith)
+every-at (suc n) test e k lt = go (eqb k n) refl (every-at n test (both-left _ (test n) e) k)
+  where
+    go : (b : Bool) → eqb k n ≡ b → (k < n → test k ≡ true) → test k ≡ true
+    go true q below = rw (eqb-true k n q) (both-right (every n test) _ e)
+    go false q below = let ne = eqb-false k n q in below (omega arith)
+
+reads-table : (s : State) (t : Table) (n : ℕ) (r : Reading) → readsAs s t n r ≡ true → (c : Content) × (r ≡ right c) × (c .table ≡ t)
+unfolding readsAs
+reads-table s t n (wrong k) e = absurd (differ (sym e))
+reads-table s t n (right c) e =
+    let table = both-left (eqb (indexOf (c .table)) (indexOf t)) _ (both-left _ (eqb (c .revision .version) (holdingOf s t .live .version))
+    (both-left _ (eqb (c .revision .number) n) (both-left _ (eqb (c .revision .last) (holdingOf s t .live .last)) e))) in
+    (c, refl, same-index (c .table) t (eqb-true (indexOf (c .table)) (indexOf t) table))
+
+-- the walk over a section that reads right as a table goes over its records
+section-walk : (t : Table) (section : List ℕ) (c : Content) → readSection section ≡ right c → c .table ≡ t → (b : List ℕ) (w : Walk) → b ≡ withoutCrc section → w ≡ walkOf t b
+    → (rest : List ℕ) × (records (layoutOf t (w .included)) (w .count) (w .index) (from b (w .at)) ≡ got (recordsIn (recordsOf t) (readSection section)) rest)
+unfolding recordsIn
+section-walk t section c e q b w p f =
+    let made = reads-right section c e .made in
+    (made .tail, rw (f, p, e) (walk-reads t (withoutCrc section) (c .structure) (made .tail) (ap (λ (u : Table). structure u (withoutCrc section)) (sym q) ∙ made .built)))
+
+-- into a live section
+pub enter-live : (s : State) (store : List ℕ) (t : Table) {test : Numbered (RecordOf t) → Bool} {answer : Option (Numbered (RecordOf t))} {i : ℕ} → Live s store t → (b : List ℕ) (w : Walk)
+    → b ≡ withoutCrc (sectionAt store (liveAt s t i)) → w ≡ walkOf t b → i < liveCount s t
+    → Before test (liveSection (recordsOf t) s store t) (liveCount s t) i answer
+    → Within (layoutOf t (w .included)) test (liveSection (recordsOf t) s store t) (liveCount s t) i (w .count) (w .index) b (w .at) answer
+unfolding liveSection liveReading tableReads placeReads
+enter-live s store t {i = i} live b w p q h before =
+    let place = reads-table s t i (liveReading s store t i) (every-at (liveCount s t) (placeReads s store t) (live .reads) i h) in
+    let walk = section-walk t (sectionAt store (liveAt s t i)) (place .0) (place .1) (place .2) b w p q in
+    enter before h (walk .0) (walk .1)

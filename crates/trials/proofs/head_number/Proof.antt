@@ -1,0 +1,15 @@
+-- The same sum.
+use mathlib.Core.Path.{refl}
+use Rattle.trials.specs.Coded.{headNumber}
+use borrow.Author.Needs.{needs}
+use Rattle.trials.proofs.head_number.Statement.{statement}
+use Rattle.trials.proofs.head_number.Tie as tie
+
+returns : tie.Need-returns
+unfolding headNumber
+returns c = refl
+
+pub head-number-spec : {M : Type 1} → statement M
+head-number-spec =
+    tie.close
+    (tie.spec (λ c. search needs) (λ c. search needs) (λ c. search needs) (λ c. search needs) (λ c. search needs) (λ c. search needs) returns)

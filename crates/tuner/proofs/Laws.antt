@@ -1,0 +1,190 @@
+-- What the checks leave, what check 16 says of a place, and each stage of a look-up as the rule has it.
+use Prim.Native.Nat.{ℕ, zero, suc, _+_, _<_, _≤_}
+use native.Mathlib.Omega.{arith}
+use native.Mathlib.Numerals.{add-one}
+use mathlib.Core.Path.{_≡_, refl, sym, ap}
+use mathlib.Core.Bool.{Bool, true, false, cond, _&&_}
+use mathlib.Core.List.{List}
+use lib.ListN.{length}
+use lib.Dec.{leb, eqb}
+use borrow.Author.Tests.{le-leb, lt-leb, leb-true, eqb-true, eqb-false}
+use Rattle.rules.specs.Section.{Reading, wrong, right, withoutCrc, readSection, headOf, readAs}
+use Rattle.rules.specs.Holding.{four, limitOf, storeSize, sectionAt, holdingOf, liveAt, wellFormed, otherMap}
+use Rattle.rules.specs.Tuning.{allLive, readsAs, every, liveReading, placeReads, tableReads, allRead, plant, needs, lookUp, tune}
+use Rattle.rules.specs.declared.Table.{Table}
+use Rattle.rules.specs.declared.Table.the-variants.{Cds, Mms, Vcm, Dcm}
+use Rattle.rules.specs.declared.State.{State}
+use Rattle.rules.specs.declared.SectionHead.{SectionHead}
+use Rattle.rules.specs.declared.Read.the-variants as Read
+use Rattle.rules.specs.declared.Tuned.{Tuned}
+use Rattle.rules.specs.declared.Tuned.the-variants as Tuned
+use Rattle.rules.proofs.Taken.{differ, both-left, both-right}
+use Rattle.rules.proofs.Steps.{formed}
+use Rattle.rules.proofs.Offers.{table-formed}
+use Rattle.rules.proofs.LiveRecords.{last-low}
+use Rattle.search.specs.Live.{Live}
+use Rattle.tuner.specs.Checks.{headReads, checks, Few}
+
+-- ---- check 16 of one place
+
+section-of : (s : State) (t : Table) (n : ℕ) (section : List ℕ) (head : SectionHead) (r : Reading) → Read.Right head ≡ readAs section r → headReads s t n head ≡ readsAs s t n r
+unfolding readAs readsAs headReads otherMap headOf
+section-of s t n section head (wrong k) e = let z : _≡_ {A = ℕ} 0 1 = cc in absurd (omega arith)
+section-of s t n section head (right c) e = let is : head ≡ headOf (withoutCrc section) c = cc in rw is
+
+not-a-section : (s : State) (t : Table) (n k : ℕ) (section : List ℕ) (r : Reading) → Read.Refused k ≡ readAs section r → false ≡ readsAs s t n r
+unfolding readAs readsAs
+not-a-section s t n k section (wrong m) e = refl
+not-a-section s t n k section (right c) e = let z : _≡_ {A = ℕ} 0 1 = cc in absurd (omega arith)
+
+module _ (s : State) (store : List ℕ) (t : Table) (n : ℕ) (section : List ℕ) (there : section ≡ sectionAt store (liveAt s t n)) where
+  pub place-right : (head : SectionHead) → Read.Right head ≡ readAs section (readSection section) → headReads s t n head ≡ placeReads s store t n
+  unfolding placeReads liveReading
+  place-right head e = rw (← there) (section-of s t n section head (readSection section) e)
+
+  pub place-wrong : (k : ℕ) → Read.Refused k ≡ readAs section (readSection section) → false ≡ placeReads s store t n
+  unfolding placeReads liveReading
+  place-wrong k e = rw (← there) (not-a-section s t n k section (readSection section) e)
+
+-- ---- and of all places of a table
+
+pub every-more : (n : ℕ) (test : ℕ → Bool) → every n test ≡ true → test n ≡ true → every (n + 1) test ≡ true
+unfolding every
+every-more n test e q = rw (add-one, e, q)
+
+pub every-fails : (n : ℕ) (test : ℕ → Bool) (k : ℕ) → k < n → test k ≡ false → every n test ≡ false
+unfolding every
+every-fails zero test k lt e = absurd (omega arith)
+every-fails (suc n) test k lt e = go (eqb k n) refl (every-fails n test k)
+  where
+    last-false : (b : Bool) → (b && false) ≡ false
+    last-false true = refl
+    last-false false = refl
+
+    go : (b : Bool) → eqb k n ≡ b → (k < n → test k ≡ false → every n test ≡ false) → (every n test && test n) ≡ false
+    go true q below = rw (← eqb-true k n q, e) (last-false (every k test))
+    go false q below = let ne = eqb-false k n q in rw (below (omega arith) e)
+
+-- ---- what the checks leave
+
+pub few : (s : State) → wellFormed s ≡ true → Few s
+unfolding limitOf
+few s good = record { few = λ t. last-low four (holdingOf s t .live) (omega arith) (formed four (holdingOf s t) (table-formed s t good) .live) }
+
+pub record Passed (s : State) (store : List ℕ) : Type 0 where
+  pub roomy : storeSize (limitOf s) ≤ length store
+  pub good : wellFormed s ≡ true
+  pub live : allLive s ≡ true
+  pub reads : allRead s store ≡ true
+
+passes : (b : Bool) (m n : ℕ) → cond b m n ≡ 0 → 0 < n → (b ≡ true) × (m ≡ 0)
+passes true m n e h = (refl, e)
+passes false m n e h = absurd (omega (arith, e))
+
+pub passed : (s : State) (store : List ℕ) → checks s store ≡ 0 → Passed s store
+unfolding checks
+passed s store e =
+    let one = passes (leb (storeSize (limitOf s)) (length store)) _ 1 e (omega arith) in
+    let two = passes (wellFormed s) _ 2 (one .1) (omega arith) in
+    let fifteen = passes (allLive s) _ 15 (two .1) (omega arith) in
+    let sixteen = passes (allRead s store) 0 16 (fifteen .1) (omega arith) in
+    record { roomy = leb-true (storeSize (limitOf s)) (length store) (one .0); good = two .0; live = fifteen .0; reads = sixteen .0 }
+
+all-reads : (s : State) (store : List ℕ) → allRead s store ≡ true → (tableReads s store Cds && tableReads s store Mms && tableReads s store Vcm && tableReads s store Dcm) ≡ true
+unfolding allRead
+all-reads s store e = e
+
+-- every table can be searched
+pub searchable : (s : State) (store : List ℕ) → checks s store ≡ 0 → (t : Table) → Live s store t
+searchable s store e t = record { few = few s (passed s store e .good) .few t; reads = each t }
+  where
+    all : (tableReads s store Cds && tableReads s store Mms && tableReads s store Vcm && tableReads s store Dcm) ≡ true
+    all = all-reads s store (passed s store e .reads)
+
+    each : (t : Table) → tableReads s store t ≡ true
+    each Cds = both-left _ (tableReads s store Mms) (both-left _ (tableReads s store Vcm) (both-left _ (tableReads s store Dcm) all))
+    each Mms = both-right (tableReads s store Cds) _ (both-left _ (tableReads s store Vcm) (both-left _ (tableReads s store Dcm) all))
+    each Vcm = both-right (tableReads s store Cds && tableReads s store Mms) _ (both-left _ (tableReads s store Dcm) all)
+    each Dcm = both-right (tableReads s store Cds && tableReads s store Mms && tableReads s store Vcm) _ all
+
+-- ---- the checks, one by one
+
+module _ (s : State) (store : List ℕ) where
+  pub check-1 : length store < storeSize (limitOf s) → 1 ≡ checks s store
+  unfolding checks
+  check-1 h = simp (lt-leb (storeSize (limitOf s)) (length store) h)
+
+  module _ (roomy : storeSize (limitOf s) ≤ length store) where
+    pub check-2 : wellFormed s ≡ false → 2 ≡ checks s store
+    unfolding checks
+    check-2 e = simp (le-leb (storeSize (limitOf s)) (length store) roomy, e)
+
+    module _ (good : wellFormed s ≡ true) where
+      pub check-15 : allLive s ≡ false → 15 ≡ checks s store
+      unfolding checks
+      check-15 e = simp (le-leb (storeSize (limitOf s)) (length store) roomy, good, e)
+
+      module _ (live : allLive s ≡ true) where
+        pub check-16 : allRead s store ≡ false → 16 ≡ checks s store
+        unfolding checks
+        check-16 e = simp (le-leb (storeSize (limitOf s)) (length store) roomy, good, live, e)
+
+        pub check-none : allRead s store ≡ true → 0 ≡ checks s store
+        unfolding checks
+        check-none e = simp (le-leb (storeSize (limitOf s)) (length store) roomy, good, live, e)
+
+-- ---- tuning is the checks and the look-up
+
+module _ (s : State) (store : List ℕ) (number : ℕ) where
+  pub too-high : checks s store ≡ 0 → 4095 < number → Tuned.Refused 14 ≡ tune s store number
+  unfolding tune needs
+  too-high e h = let p = passed s store e in simp (le-leb (storeSize (limitOf s)) (length store) (p .roomy), p .good, lt-leb number 4095 h)
+
+  pub looked-up : checks s store ≡ 0 → number ≤ 4095 → lookUp (plant s store) number ≡ tune s store number
+  unfolding tune needs
+  looked-up e h = let p = passed s store e in simp (le-leb (storeSize (limitOf s)) (length store) (p .roomy), p .good, le-leb number 4095 h, p .live, p .reads)
+
+-- where a check is not passed: 14 has its place between 2 and 15
+module _ (t : Tuned) (n : ℕ) where
+  abbrev Check : (roomy good live reads : Bool) → ℕ
+  Check roomy good live reads = cond roomy (cond good (cond live (cond reads 0 16) 15) 2) 1
+
+  abbrev Tune : (roomy good low live reads : Bool) → Tuned
+  Tune roomy good low live reads = needs roomy 1 (needs good 2 (needs low 14 (needs live 15 (needs reads 16 t))))
+
+  early : (roomy good low live reads : Bool) → n ≡ Check roomy good live reads → (n ≡ 0 → ⊥) → n < 14 → Tuned.Refused n ≡ Tune roomy good low live reads
+  unfolding needs
+  early false good low live reads e ne h = ap Tuned.Refused e
+  early true false low live reads e ne h = ap Tuned.Refused e
+  early true true low false reads e ne h = absurd (omega arith)
+  early true true low true false e ne h = absurd (omega arith)
+  early true true low true true e ne h = absurd (ne e)
+
+  high : (roomy good low live reads : Bool) → n ≡ Check roomy good live reads → 14 ≤ n → low ≡ false → Tuned.Refused 14 ≡ Tune roomy good low live reads
+  unfolding needs
+  high false good low live reads e h f = absurd (omega arith)
+  high true false low live reads e h f = absurd (omega arith)
+  high true true true live reads e h f = absurd (differ f)
+  high true true false live reads e h f = refl
+
+  late : (roomy good low live reads : Bool) → n ≡ Check roomy good live reads → (n ≡ 0 → ⊥) → 14 ≤ n → low ≡ true → Tuned.Refused n ≡ Tune roomy good low live reads
+  unfolding needs
+  late false good low live reads e ne h f = absurd (omega arith)
+  late true false low live reads e ne h f = absurd (omega arith)
+  late true true false live reads e ne h f = absurd (differ (sym f))
+  late true true true false reads e ne h f = ap Tuned.Refused e
+  late true true true true false e ne h f = ap Tuned.Refused e
+  late true true true true true e ne h f = absurd (ne e)
+
+module _ (s : State) (store : List ℕ) (number n : ℕ) (e : n ≡ checks s store) where
+  pub refused-early : (n ≡ 0 → ⊥) → n < 14 → Tuned.Refused n ≡ tune s store number
+  unfolding checks tune
+  refused-early ne h = early (lookUp (plant s store) number) n (leb (storeSize (limitOf s)) (length store)) (wellFormed s) (leb number 4095) (allLive s) (allRead s store) e ne h
+
+  pub refused-high : 14 ≤ n → 4095 < number → Tuned.Refused 14 ≡ tune s store number
+  unfolding checks tune
+  refused-high h f = high (lookUp (plant s store) number) n (leb (storeSize (limitOf s)) (length store)) (wellFormed s) (leb number 4095) (allLive s) (allRead s store) e h (lt-leb number 4095 f)
+
+  pub refused-late : (n ≡ 0 → ⊥) → 14 ≤ n → number ≤ 4095 → Tuned.Refused n ≡ tune s store number
+  unfolding checks tune
+  refused-late ne h f = late (lookUp (plant s store) number) n (leb (storeSize (limitOf s)) (length store)) (wellFormed s) (leb number 4095) (allLive s) (allRead s store) e ne h (le-leb number 4095 f)

@@ -1,0 +1,252 @@
+// From number to tuner: what a channel number is tuned to, or the number of the refusal. The checks that go for every channel (1,
+// 2, 15 and 16) are made by `check`; where they passed `look_up` looks channels up without making them again; `tune` is both.
+ghost use mathlib.Core.Path.{_≡_};
+ghost use Prim.Native.Nat.{_<_};
+ghost use Rattle.rules.specs.Holding.{four, holdingOf};
+ghost use Rattle.rules.specs.Tuning.{allLive, placeReads, tableReads, allRead, plant, inReach, tuneSignal, tuneKhz, tuneCarrier, tuneChannel};
+ghost use Rattle.rules.specs.Tuning as rule;
+ghost use Rattle.rules.specs.declared.Signal.the-variants as signal;
+ghost use Rattle.tuner.specs.Checks.{headReads, checks, Few};
+use rules::Channel;
+use rules::Read;
+use rules::SectionHead;
+use rules::Signal;
+use rules::State;
+use rules::Table;
+use rules::Tuned;
+use search::CarrierFound;
+use search::ChannelFound;
+use search::ModeFound;
+
+// ---- the checks: 1, 2, 15 and 16
+
+fn all_live(s: State) -> bool
+    ensures { λ x. ⌜ x ≡ allLive s ⌝ }
+{
+    if s.cds.live.present != 1 {
+        return false;
+    }
+    if s.mms.live.present != 1 {
+        return false;
+    }
+    if s.vcm.live.present != 1 {
+        return false;
+    }
+    if s.dcm.live.present != 1 {
+        return false;
+    }
+    true
+}
+
+// Whether a section that reads right is section n of a live table: that table, map, version, number and last.
+fn is_section_of(s: State, t: Table, n: u8, head: SectionHead) -> bool
+    ensures { λ x. ⌜ x ≡ headReads s t n head ⌝ }
+{
+    let table = head.table;
+    if state::index_of(table) != state::index_of(t) {
+        return false;
+    }
+    if state::is_for_other(s, table, head.map) {
+        return false;
+    }
+    let h = state::holding_of(s, t);
+    if head.revision.version != h.live.version {
+        return false;
+    }
+    if head.revision.number != n {
+        return false;
+    }
+    if head.revision.last != h.live.last {
+        return false;
+    }
+    true
+}
+
+// Whether the place of section n of a live table still reads right as that section.
+fn place_reads(s: State, store: &[u8], t: Table, n: u8) -> bool
+    ensures { λ x. ⌜ x ≡ placeReads s (now (store .entry)) t n ⌝ }
+{
+    let read = section::read_section(state::live_section(s, store, t, n));
+    match read {
+        Read::Refused(_) => false,
+        Read::Right(head) => is_section_of(s, t, n, head),
+    }
+}
+
+fn table_reads(s: State, store: &[u8], t: Table) -> bool
+    requires { ⌜ holdingOf s t .live .last < four ⌝ }
+    ensures { λ x. ⌜ x ≡ tableReads s (now (store .entry)) t ⌝ }
+{
+    let h = state::holding_of(s, t);
+    let sections = h.live.last + 1;
+    for n in 0..sections {
+        if !place_reads(s, store, t, n) {
+            return false;
+        }
+    }
+    true
+}
+
+fn all_read(s: State, store: &[u8]) -> bool
+    requires { ⌜ Few s ⌝ }
+    ensures { λ x. ⌜ x ≡ allRead s (now (store .entry)) ⌝ }
+{
+    if table_reads(s, store, Table::Cds) {
+        if table_reads(s, store, Table::Mms) {
+            return table_reads(s, store, Table::Vcm) && table_reads(s, store, Table::Dcm);
+        }
+        return false;
+    }
+    false
+}
+
+// The number of the refusal that goes for every channel, 1, 2, 15 or 16, or 0: channels can be looked up.
+pub fn check(state: State, store: &[u8]) -> u8
+    ensures { λ x. ⌜ x ≡ checks state (now (store .entry)) ⌝ }
+{
+    if store.len() < state::STORE {
+        return 1;
+    }
+    if !state::well_formed(state) {
+        return 2;
+    }
+    if !all_live(state) {
+        return 15;
+    }
+    if !all_read(state, store) {
+        return 16;
+    }
+    0
+}
+
+// ---- a channel record: 19, 20 and 21
+
+// What the tuner reaches: 54,000 to 1,002,000 kHz.
+fn in_reach(khz: u32) -> bool
+    ensures { λ x. ⌜ x ≡ inReach khz ⌝ }
+{
+    if khz < 54000 {
+        return false;
+    }
+    khz <= 1002000
+}
+
+// Type 1 is hidden.
+fn hidden(c: Channel) -> u8
+    ensures { λ x. ⌜ x ≡ rule.hidden c ⌝ }
+{
+    if c.kind == 1 {
+        return 1;
+    }
+    0
+}
+
+fn tune_digital(s: State, store: &[u8], c: Channel, khz: u32, program: u16, mode: u8) -> Tuned
+    requires { ⌜ checks s (now store) ≡ 0 ⌝ }
+    ensures { λ x. ⌜ x ≡ tuneSignal (plant s (now (store .entry))) c khz (signal.Digital program mode) ⌝ }
+{
+    if mode == 0 {
+        return Tuned::Refused(21);
+    }
+    let found = search::find_mode(s, store, mode);
+    match found {
+        ModeFound::Nothing => Tuned::Refused(21),
+        ModeFound::At(mode) => Tuned::Digital {
+            hidden: hidden(c),
+            path: c.path,
+            khz,
+            program,
+            mode,
+        },
+    }
+}
+
+// On a frequency: nothing out of reach is handed to the tuner.
+fn tune_khz(s: State, store: &[u8], c: Channel, khz: u32) -> Tuned
+    requires { ⌜ checks s (now store) ≡ 0 ⌝ }
+    ensures { λ x. ⌜ x ≡ tuneKhz (plant s (now (store .entry))) c khz ⌝ }
+{
+    if in_reach(khz) {
+        let signal = c.signal;
+        return match signal {
+            Signal::Digital { program, mode } => tune_digital(s, store, c, khz, program, mode),
+            Signal::Analogue {
+                scrambled,
+                standard,
+            } => Tuned::Analogue {
+                hidden: hidden(c),
+                path: c.path,
+                khz,
+                standard,
+                scrambled,
+            },
+        };
+    }
+    Tuned::Refused(20)
+}
+
+fn tune_carrier(s: State, store: &[u8], c: Channel) -> Tuned
+    requires { ⌜ checks s (now store) ≡ 0 ⌝ }
+    ensures { λ x. ⌜ x ≡ tuneCarrier (plant s (now (store .entry))) c ⌝ }
+{
+    if c.carrier == 0 {
+        return Tuned::Refused(19);
+    }
+    let found = search::find_carrier(s, store, c.carrier);
+    match found {
+        CarrierFound::Nothing => Tuned::Refused(19),
+        CarrierFound::At(khz) => tune_khz(s, store, c, khz),
+    }
+}
+
+// An application channel needs no carrier.
+fn tune_channel(s: State, store: &[u8], c: Channel) -> Tuned
+    requires { ⌜ checks s (now store) ≡ 0 ⌝ }
+    ensures { λ x. ⌜ x ≡ tuneChannel (plant s (now (store .entry))) c ⌝ }
+{
+    if c.application == 1 {
+        return Tuned::Application {
+            hidden: hidden(c),
+            path: c.path,
+            number: c.source,
+        };
+    }
+    tune_carrier(s, store, c)
+}
+
+// ---- a channel number
+
+// What a channel is tuned to, where the checks have passed: 14, then 17 to 21.
+pub fn look_up(state: State, store: &[u8], channel: u16) -> Tuned
+    requires { ⌜ checks state (now store) ≡ 0 ⌝ }
+    ensures { λ x. ⌜ x ≡ rule.tune state (now (store .entry)) channel ⌝ }
+{
+    if 4095 < channel {
+        return Tuned::Refused(14);
+    }
+    if search::is_defined(state, store, channel) {
+        let found = search::find_channel(state, store, channel);
+        return match found {
+            ChannelFound::Nothing => Tuned::Refused(18),
+            ChannelFound::At(c) => tune_channel(state, store, c),
+        };
+    }
+    Tuned::Refused(17)
+}
+
+// What a channel is tuned to: the checks, and where they pass the look-up. 14 comes behind 1 and 2 and before 15 and 16.
+pub fn tune(state: State, store: &[u8], channel: u16) -> Tuned
+    ensures { λ x. ⌜ x ≡ rule.tune state (now (store .entry)) channel ⌝ }
+{
+    let refusal = check(state, store);
+    if refusal == 0 {
+        return look_up(state, store, channel);
+    }
+    if refusal < 14 {
+        return Tuned::Refused(refusal);
+    }
+    if 4095 < channel {
+        return Tuned::Refused(14);
+    }
+    Tuned::Refused(refusal)
+}
