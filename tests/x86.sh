@@ -23,13 +23,14 @@ run_x86() {
     ${emulator:+"$emulator"} "$toolchain/lib/ld-linux-x86-64.so.2" --library-path "$toolchain/lib" "$@"
 }
 
-# link_x86 OUT FILE.c ARCHIVE: one C file, with include/ and the stand-in headers of tests/c/headers, and an archive
+# link_x86 OUT FILE.c ARCHIVE..: one C file, with include/ and the stand-in headers of tests/c/headers, and archives
 link_x86() {
-    local object=$1.o lib=$toolchain/lib
+    local out=$1 source=$2 object=$1.o lib=$toolchain/lib
+    shift 2
     "$toolchain/bin/clang" --target=x86_64-unknown-linux-gnu -std=c11 -Wall -Wextra -Werror -O2 -fPIE -nostdinc \
-        -isystem tests/c/headers -Iinclude -c "$2" -o "$object" || return 1
-    "$toolchain/bin/ld.lld" -pie -m elf_x86_64 --dynamic-linker /lib64/ld-linux-x86-64.so.2 -o "$1" \
-        "$lib/Scrt1.o" "$lib/crti.o" "$lib/crtbeginS.o" "$object" "$3" "$lib/libc.so.6" "$lib/libc_nonshared.a" \
+        -isystem tests/c/headers -Iinclude -c "$source" -o "$object" || return 1
+    "$toolchain/bin/ld.lld" -pie -m elf_x86_64 --dynamic-linker /lib64/ld-linux-x86-64.so.2 -o "$out" \
+        "$lib/Scrt1.o" "$lib/crti.o" "$lib/crtbeginS.o" "$object" "$@" "$lib/libc.so.6" "$lib/libc_nonshared.a" \
         "$lib/libgcc.a" "$lib/crtendS.o" "$lib/crtn.o"
 }
 

@@ -6,6 +6,7 @@
 
 #include <string.h>
 
+uint8_t trial_check(const uint8_t *state, size_t state_length, const uint8_t *store, size_t store_length);
 uint64_t trial_tune(const uint8_t *state, size_t state_length, const uint8_t *store, size_t store_length, uint16_t channel,
                     uint32_t part);
 
@@ -31,6 +32,20 @@ static int read_pieces(size_t store_length) {
     return 0;
 }
 
+/* The three parts of an answer. What the checks refuse is refused for every channel, but for one above 4095. */
+static int ask(const uint8_t *state, size_t store_length, uint16_t channel) {
+    uint64_t parts[3];
+    for (uint32_t part = 0; part < 3; part++)
+        parts[part] = trial_tune(state, STATE, store, store_length, channel, part);
+    uint8_t refusal = trial_check(state, STATE, store, store_length);
+    if (refusal != 0 && channel <= 4095 && parts[0] != (uint64_t)refusal << 8)
+        return fail("tuning does not refuse what the checks refuse");
+    write_number(parts[0], 8);
+    write_number(parts[1], 8);
+    write_number(parts[2], 4);
+    return 0;
+}
+
 static int trial(uint8_t *state) {
     uint8_t head[5], four[4];
     if (fread(head, 1, sizeof head, stdin) != sizeof head)
@@ -48,9 +63,8 @@ static int trial(uint8_t *state) {
     for (uint32_t left = number(four, 4); left > 0; left--) {
         if (fread(four, 1, 2, stdin) != 2)
             return ends_early();
-        uint16_t channel = (uint16_t)number(four, 2);
-        for (uint32_t part = 0; part < 3; part++)
-            write_number(trial_tune(state, STATE, store, store_length, channel, part), part < 2 ? 8 : 4);
+        if (ask(state, store_length, (uint16_t)number(four, 2)))
+            return 1;
     }
     if (memcmp(state_before, state, STATE) || memcmp(store_before, store, store_length))
         return fail("tuning changed a state or a store");

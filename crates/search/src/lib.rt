@@ -208,9 +208,9 @@ pub fn find_channel(s: State, store: &[u8], number: u16) -> ChannelFound
             let Skip::At(next) = fields::past_counted(b, at + vcm::SIZE, walk.included == 1) else {
                 break;
             };
-            let c = vcm::channel_of(fields::part(b, at, vcm::SIZE));
-            if c.number == number {
-                return ChannelFound::At(c);
+            let r = fields::part(b, at, vcm::SIZE);
+            if vcm::number_of(r) == number {
+                return ChannelFound::At(vcm::channel_of(r));
             }
             at = next;
         }

@@ -5,6 +5,7 @@ ghost use mathlib.Core.Path.{_≡_};
 ghost use lib.ListN.{length};
 ghost use Rattle.rules.specs.Holding.{fresh, offered, storeAfter};
 ghost use Rattle.rules.specs.Tuning.{tune};
+ghost use Rattle.tuner.specs.Checks.{checks};
 ghost use Rattle.trials.specs.Coded.{holdingFrom, stateFrom, holdingNumber, statePart, answerNumber, offeredPart, headNumber, digitalNumber, tunedHead, tunedRest, tunedSymbols, tunedPart};
 use rules::Answer;
 use rules::GatheredVersion;
@@ -228,6 +229,15 @@ fn tuned_part(t: Tuned, part: u32) -> u64
         2 => tuned_symbols(t),
         _ => 0,
     }
+}
+
+// The refusal that goes for every channel, of a state of 34 bytes with a store, or 0.
+#[no_mangle]
+pub extern "C" fn trial_check(state: &[u8], store: &[u8]) -> u8
+    ensures { λ x. ⌜ x ≡ checks (stateFrom (now (state .entry))) (now (store .entry)) ⌝ }
+{
+    let given = state_from(state);
+    tuner::check(given, store)
 }
 
 // Asks a channel of a state of 34 bytes with a store, and gives a part of the answer.

@@ -98,19 +98,27 @@ fn signal_of(r: &[u8]) -> Signal
     }
 }
 
+// The channel number of the record with these bytes: all that a search needs of the records that it passes.
+pub fn number_of(r: &[u8]) -> u16
+    ensures { λ x. ⌜ x ≡ channelOf (now (r .entry)) .number ⌝ }
+{
+    let high = fields::byte(r, 0);
+    let low = fields::byte(r, 1);
+    (high % 16) as u16 * 256 + low as u16
+}
+
 // What the record with these bytes says.
 pub fn channel_of(r: &[u8]) -> Channel
     ensures { λ x. ⌜ x ≡ channelOf (now (r .entry)) ⌝ }
 {
-    let number = fields::byte(r, 0);
-    let number_low = fields::byte(r, 1);
+    let number = number_of(r);
     let flags = fields::byte(r, 2);
     let source = fields::byte(r, 3);
     let source_low = fields::byte(r, 4);
     let carrier = fields::byte(r, 5);
     let signal = signal_of(r);
     Channel {
-        number: (number % 16) as u16 * 256 + number_low as u16,
+        number,
         application: flags / 128,
         path: flags / 32 % 2,
         kind: flags % 16,

@@ -1,8 +1,8 @@
 -- The record found is the answer; at both loops it is the first match from here on. A channel record takes no index.
+use mathlib.Core.Path.{sym, _∙_, refl, ap, _≡_}
 use Prim.Native.Nat.{_-_}
 use native.Mathlib.Omega.{arith}
 use native.Mathlib.Nat.{sub-zero}
-use mathlib.Core.Path.{refl, ap, _∙_, _≡_}
 use mathlib.Core.Logic.{⊎-elim}
 use borrow.Author.Needs.{needs}
 use denote.Ref.{now}
@@ -12,7 +12,7 @@ use Rattle.rules.proofs.Search.{Before, Within, begin, leave, fits, never, matc
 use Rattle.fields.proofs.Laws.{at-got, at-no}
 use Rattle.search.proofs.Bridge.{enter-live}
 use borrow.Author.Tests.{eq-eqb, ne-eqb}
-use Rattle.rules.specs.Tables.{channelOf, vcm}
+use Rattle.rules.specs.Tables.{vcm}
 use Rattle.rules.specs.Tuning.{isChannel, channelsIn, liveCount, liveSection, liveRecords}
 use Rattle.rules.specs.declared.Table.the-variants.{Vcm}
 use Rattle.search.specs.Live.{walkOf, channelFound}
@@ -52,15 +52,15 @@ add-past-counted c = omega (arith, fits (c .before .loop2 .inv) (omega arith))
 
 returns : tie.Need-returns Inv-loop2 μ-loop2 Inv-loop μ-loop
 unfolding channelFound isChannel vcm numbered
-returns c = let p = c .before .before .channel-of .ensures ∙ ap channelOf (c .before .before .before .part .ensures) in
-    rw p (ap channelFound (match (c .before .before .before .before .before .before .before .before .before .before .loop2 .inv) (omega arith) (eq-eqb _ _ (rw p at (c .if1 .taken)))))
+returns c = let p = c .before .before .before .part .ensures in
+    rw (c .channel-of .ensures, p) (ap channelFound (match (c .before .before .before .before .before .before .before .before .before .before .loop2 .inv) (omega arith) (eq-eqb _ _ (rw p at (sym (c .before .before .number-of .ensures) ∙ c .before .if1 .taken)))))
 
 loop2-again : tie.Need-loop2-again Inv-loop2 μ-loop2 Inv-loop μ-loop
 unfolding isChannel vcm numbered
-loop2-again c = let s = c .before .before .before .before .before .before .before .past-counted .ensures in
-    let e = c .before .before .before .before .before .next .given .1 in
-    let p = c .before .before .channel-of .ensures ∙ ap channelOf (c .before .before .before .part .ensures) in
-    pass (c .before .before .before .before .before .before .before .before .before .before .loop2 .inv) (omega arith) refl (at-got _ _ _ s _ e .1) (ne-eqb _ _ (rw p at (c .if1 .left)))
+loop2-again c = let s = c .before .before .before .before .before .before .past-counted .ensures in
+    let e = c .before .before .before .before .next .given .1 in
+    let p = c .before .before .part .ensures in
+    pass (c .before .before .before .before .before .before .before .before .before .loop2 .inv) (omega arith) refl (at-got _ _ _ s _ e .1) (rw (← p, ← c .before .number-of .ensures) (ne-eqb _ _ (c .if1 .left)))
 
 loop-again : tie.Need-loop-again Inv-loop2 μ-loop2 Inv-loop μ-loop
 unfolding vcm
@@ -90,6 +90,7 @@ find-channel-spec =
     (λ c κs. search needs)
     (λ c. search needs)
     (λ c. search needs)
+    (λ c κs. search needs)
     (λ c κs. search needs)
     (λ c κs. search needs)
     returns

@@ -1,6 +1,6 @@
 -- Field by field the bits that the rule names.
-use borrow.Author.Needs.{needs}
 use Rattle.rules.specs.Tables.{channelOf}
+use borrow.Author.Needs.{needs}
 use Rattle.vcm.proofs.channel_of.Statement.{statement}
 use Rattle.vcm.proofs.channel_of.Tie as tie
 
@@ -18,11 +18,6 @@ channel-of-spec =
     (λ c κs. search needs)
     (λ c κs. search needs)
     (λ c κs. search needs)
-    (λ c κs. search needs)
-    (λ c. search needs)
-    (λ c. search needs)
-    (λ c. search needs)
-    (λ c. search needs)
     (λ c. search needs)
     (λ c. search needs)
     (λ c. search needs)
