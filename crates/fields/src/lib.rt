@@ -6,6 +6,7 @@ ghost use lib.ListN.{length, take};
 ghost use Rattle.rules.specs.Bytes.{from};
 ghost use Rattle.rules.specs.Bytes as rule;
 ghost use Rattle.rules.specs.Descriptors.{descriptor, passed, counted};
+ghost use Rattle.rules.specs.Section.{lengthOf};
 ghost use Rattle.fields.specs.Place.{Stands};
 
 // Byte j, or 0 where there is none.
@@ -41,6 +42,15 @@ pub fn part(b: &[u8], at: usize, n: usize) -> &[u8]
     } else {
         &b[..0]
     }
+}
+
+// L, which counts all that follows the first three bytes; a section takes 3 + L bytes.
+pub fn length_of(s: &[u8]) -> u16
+    ensures { λ r. ⌜ r ≡ lengthOf (now (s .entry)) ⌝ }
+{
+    let high = byte(s, 1);
+    let low = byte(s, 2);
+    (high % 16) as u16 * 256 + low as u16
 }
 
 // ---- descriptors

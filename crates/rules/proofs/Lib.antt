@@ -17,3 +17,4 @@ pub mod Faithful
 pub mod Asking
 pub mod Search
 pub mod Tunes
+pub mod Lowest

@@ -11,6 +11,7 @@ use Rattle.rules.specs.Layout.{Numbered}
 use Rattle.rules.specs.Tables.{carriersOf, modeOf, channelOf, rangeOf}
 use Rattle.rules.specs.Section.{check, ask, partOf}
 use Rattle.rules.specs.Holding.{noneLive, noneGathered, freshHolding, fresh, liveFormed, gatheredFormed, placeOf, storeSize, stepOf, offered, gatheredAt}
+use Rattle.rules.specs.Search.{sections}
 use Rattle.rules.specs.Tuning.{Plant, lookUp, tune}
 use Rattle.rules.specs.Lineup.{text, sectionsOf, refusals, channelLine, lineup}
 use Rattle.rules.specs.declared.Table.the-variants.{Cds, Mms, Vcm, Dcm}
@@ -137,6 +138,8 @@ pub record Readings : Type 0 where
   pub missing-one : stepOf 4 (holding5 0x05) (record { version = 5; number = 3; last = 3 }) ≡ record { answer = Stored 1; holding = holding5 0x0D }
   -- T1: the first covering range decides, also where it says not defined
   pub t1 : lookUp (plantOf c1 c9 (range 3 "01" ++ range 3 "81")) 3 ≡ Tuned.Refused 17
+  -- T2: sections come by their number, lowest first; here each holds one record, its number
+  pub t2 : sections (λ n. n ∷ []) 3 0 ≡ 0 ∷ 1 ∷ 2 ∷ []
   -- T3: the first carrier of an index ends the search, also where it is out of range
   pub t3 : lookUp (plantOf (carrier 2 "01 00 00 15 17" ++ c1) c9 (range 3 "81")) 3 ≡ Tuned.Refused 20
   -- T4: so does the first record of a channel, here with carrier reference 0 (T9)
@@ -225,6 +228,7 @@ readings =
       missing-two = refl;
       missing-one = refl;
       t1 = refl;
+      t2 = refl;
       t3 = refl;
       t4 = refl;
       t6 = refl;

@@ -4,7 +4,7 @@ ghost use mathlib.Core.Path.{_≡_};
 ghost use Prim.Native.Nat.{_≤_};
 ghost use lib.Dec.{eqb};
 ghost use lib.ListN.{length};
-ghost use Rattle.rules.specs.Section.{fitting, lengthOf, contentOf, content, readSection, readAs, ask, partOf};
+ghost use Rattle.rules.specs.Section.{fitting, contentOf, content, readSection, readAs, ask, partOf};
 ghost use Rattle.section.specs.Reads.{shown};
 use closing::Closed;
 use fields::Skip;
@@ -19,15 +19,6 @@ mod header; // the table that a section is of
 mod structure; // the records of every table
 mod closing; // the closing list
 
-// L, which counts all that follows the first three bytes; a section takes 3 + L bytes.
-pub fn length_of(s: &[u8]) -> u16
-    ensures { λ r. ⌜ r ≡ lengthOf (now (s .entry)) ⌝ }
-{
-    let high = fields::byte(s, 1);
-    let low = fields::byte(s, 2);
-    (high % 16) as u16 * 256 + low as u16
-}
-
 // At least 8 bytes, exactly 3 + L of them, and L at most 1,021: else 3.
 fn is_fitting(s: &[u8]) -> bool
     ensures { λ r. ⌜ r ≡ fitting (now (s .entry)) ⌝ }
@@ -35,7 +26,7 @@ fn is_fitting(s: &[u8]) -> bool
     if s.len() < 8 {
         return false;
     }
-    let l = length_of(s);
+    let l = fields::length_of(s);
     if s.len() != 3 + l as usize {
         return false;
     }

@@ -74,7 +74,7 @@ fn section_at(store: &[u8], at: usize) -> &[u8]
     ensures { λ r. ⌜ now r ≡ sectionAt (now (store .entry)) at ⌝ }
 {
     let place = fields::part(store, at, PLACE);
-    let l = section::length_of(place);
+    let l = fields::length_of(place);
     fields::part(place, 0, 3 + l as usize)
 }
 

@@ -1,8 +1,8 @@
 -- The 12 bits that the rule names.
 use borrow.Author.Needs.{needs}
 use Rattle.rules.specs.Section.{lengthOf}
-use Rattle.section.proofs.length_of.Statement.{statement}
-use Rattle.section.proofs.length_of.Tie as tie
+use Rattle.fields.proofs.length_of.Statement.{statement}
+use Rattle.fields.proofs.length_of.Tie as tie
 
 returns : tie.Need-returns
 unfolding lengthOf
