@@ -9,12 +9,12 @@ of the answer, its value and the 34 bytes of the state after it, and behind a tr
 
 import sys
 import zlib
-from collections import Counter
 
 sys.dont_write_bytecode = True
 
+import batches
 import trials
-from compare import SHOWN, Question, ask, command
+from compare import Question, ask, command
 from receiver import LIVE, ORDER, OTHER_MAP, REFUSED, REPEAT, STORED, offer, read
 from section import Refusal
 
@@ -90,34 +90,6 @@ def first_difference(trial, right, got):
             % tuple(int.from_bytes(data[-CRC_BYTES:], 'little') for data in (got, right))]
 
 
-def print_differences(different):
-    for number, trial, right, got in different[:SHOWN]:
-        print('difference: trial %d (%s: %s), store of %d bytes, seed %d'
-              % (number, trial.family, trial.name, trial.length, trial.seed))
-        for line in first_difference(trial, right, got):
-            print('  ' + line)
-    for family, count in Counter(trial.family for _, trial, _, _ in different).items():
-        print('differences in %s: %d' % (family, count))
-
-
-def print_histogram(batch, answers):
-    """How many of each answer, and of each family of trials with its answers."""
-    reached, families, sizes = Counter(), {}, Counter()
-    for trial, found in zip(batch, answers):
-        words = [said(answer) for answer in found]
-        reached.update(words)
-        families.setdefault(trial.family, Counter()).update(words)
-        sizes[trial.family] += 1
-    print('answers:')
-    for words in WANTED:
-        print('  %-11s %6d' % (words, reached[words]))
-    print('families:')
-    for family, counts in families.items():
-        shown = ', '.join('%s: %d' % (words, counts[words]) for words in WANTED if counts[words])
-        print('  %-24s %5d   %s' % (family, sizes[family], shown))
-    return reached
-
-
 def unmet(batch, answers, reached):
     """Lines on answers that the batch should reach and doesn't, and on claims not met."""
     lines = ['no section has the answer %s' % words for words in WANTED if not reached[words]]
@@ -145,14 +117,11 @@ def compare(program, seed, count):
     sizes = [len(trial.sections) * STEP_BYTES + CRC_BYTES for trial in batch]
     got = list(ask_batch(program, batch, sizes))
     answers, right = zip(*map(right_steps, batch))
-    lines = unmet(batch, answers, print_histogram(batch, answers))
-    for line in lines[:SHOWN]:
-        print(line)
-    different = [each for each in zip(range(len(batch)), batch, right, got) if each[2] != each[3]]
-    print_differences(different)
+    lines = unmet(batch, answers, batches.print_histogram(batch, answers, said, WANTED))
+    differing, wrong = batches.report(batch, right, got, lines, first_difference)
     print('seed %d: %d trials, %d sections, %d trials differ, %d claims not met'
-          % (seed, len(batch), sum(map(len, answers)), len(different), len(lines)))
-    return len(lines) + len(different)
+          % (seed, len(batch), sum(map(len, answers)), differing, len(lines)))
+    return wrong
 
 
 if __name__ == '__main__':

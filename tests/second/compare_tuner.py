@@ -14,13 +14,13 @@ PROGRAM gets all trials on its standard input, as tuning_trials.py writes them. 
 
 import struct
 import sys
-from collections import Counter
 
 sys.dont_write_bytecode = True
 
+import batches
 import tuning
 import tuning_trials
-from compare import SHOWN, Question, ask, command
+from compare import Question, ask, command
 from compare_receiver import shown_state
 from receiver import ORDER, read
 from section import Refusal
@@ -103,34 +103,6 @@ def first_difference(trial, right, got):
     return lines
 
 
-def print_differences(different):
-    for number, trial, right, got in different[:SHOWN]:
-        print('difference: trial %d (%s: %s), store of %d bytes, seed %d'
-              % (number, trial.family, trial.name, trial.length, trial.seed))
-        for line in first_difference(trial, right, got):
-            print('  ' + line)
-    for family, count in Counter(trial.family for _, trial, _, _ in different).items():
-        print('trials that differ in %s: %d' % (family, count))
-
-
-def print_histogram(batch, answers):
-    """How many of each answer, and of each family of trials with its answers."""
-    reached, families, sizes = Counter(), {}, Counter()
-    for trial, found in zip(batch, answers):
-        words = [said(answer) for answer in found]
-        reached.update(words)
-        families.setdefault(trial.family, Counter()).update(words)
-        sizes[trial.family] += 1
-    print('answers:')
-    for words in WANTED:
-        print('  %-11s %6d' % (words, reached[words]))
-    print('families:')
-    for family, counts in families.items():
-        shown = ', '.join('%s: %d' % (words, counts[words]) for words in WANTED if counts[words])
-        print('  %-22s %5d   %s' % (family, sizes[family], shown))
-    return reached
-
-
 def unmet(batch, answers, reached):
     """Lines on answers that the batch should reach and doesn't, and on claims not met."""
     lines = ['no channel has the answer %s' % words for words in WANTED if not reached[words]]
@@ -159,14 +131,11 @@ def compare(program, seed, count):
     got = list(ask_batch(program, batch))
     answers = [right_answers(trial) for trial in batch]
     right = [[answer_bytes(answer) for answer in found] for found in answers]
-    lines = unmet(batch, answers, print_histogram(batch, answers))
-    for line in lines[:SHOWN]:
-        print(line)
-    different = [each for each in zip(range(len(batch)), batch, right, got) if each[2] != each[3]]
-    print_differences(different)
+    lines = unmet(batch, answers, batches.print_histogram(batch, answers, said, WANTED))
+    differing, wrong = batches.report(batch, right, got, lines, first_difference)
     print('seed %d: %d trials, %d channels, %d trials differ, %d claims not met'
-          % (seed, len(batch), sum(map(len, answers)), len(different), len(lines)))
-    return len(lines) + len(different)
+          % (seed, len(batch), sum(map(len, answers)), differing, len(lines)))
+    return wrong
 
 
 if __name__ == '__main__':

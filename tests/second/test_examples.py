@@ -279,14 +279,17 @@ CONTENTS = [
 ]
 
 
-def main():
-    tried = [(what, reading.check(section), wanted)
-             for what, section, wanted in ANSWERS] + CONTENTS
+def report(tried):
+    """Prints the (what, got, wanted) that are wrong; the exit status."""
     wrong = [each for each in tried if each[1] != each[2]]
-    for what, got, wanted in wrong:
-        print('wrong: %s: got %s, wanted %s' % (what, got, wanted))
+    for what, got, wanted in wrong[:20]:
+        print('wrong: %s: got %.200s, wanted %.200s' % (what, got, wanted))
     print('%d examples, %d wrong' % (len(tried), len(wrong)))
     return 1 if wrong else 0
+
+
+def main():
+    return report([(what, reading.check(section), wanted) for what, section, wanted in ANSWERS] + CONTENTS)
 
 
 if __name__ == '__main__':

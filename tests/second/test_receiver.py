@@ -291,11 +291,7 @@ def main():
     for cases in (places, longest_sections, short_over_long, refusal_2, order_of_checks, steps_5_and_6, wire):
         tried.extend(cases())
     tried.append(('fresh', receiver.fresh(MAP), state()))
-    wrong = [each for each in tried if each[1] != each[2]]
-    for what, got, wanted in wrong[:20]:
-        print('wrong: %s: got %.200s, wanted %.200s' % (what, got, wanted))
-    print('%d examples, %d wrong' % (len(tried), len(wrong)))
-    return 1 if wrong else 0
+    return examples.report(tried)
 
 
 if __name__ == '__main__':

@@ -423,11 +423,7 @@ def main():
     for cases in (line, carriers, first_carrier, first_mode, first_channel, first_range, channel_kinds,
                   order_of_17_to_21, record_lists, lengths, states, places, wire):
         tried.extend(cases())
-    wrong = [each for each in tried if each[1] != each[2]]
-    for what, got, wanted in wrong[:20]:
-        print('wrong: %s: got %.200s, wanted %.200s' % (what, got, wanted))
-    print('%d examples, %d wrong' % (len(tried), len(wrong)))
-    return 1 if wrong else 0
+    return examples.report(tried)
 
 
 if __name__ == '__main__':
