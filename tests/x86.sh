@@ -18,6 +18,16 @@ toolchain=$kit/on/$(uname -m)/toolchain
 emulator=
 [ -x "$toolchain/bin/qemu-x86_64" ] && emulator=$toolchain/bin/qemu-x86_64
 
+# arguments COMPARISON PROGRAM [ARGUMENT..]: the arguments of a comparison, before anything is built for it. Ends with its help
+# where that is asked for, and with one line where an argument is wrong
+arguments() {
+    local argument
+    for argument in "${@:3}"; do
+        case $argument in -h | --help) exec python3 "$1" --help ;; esac
+    done
+    python3 "$1" "$2" --parse "${@:3}" || exit
+}
+
 # run_x86 PROGRAM [ARGUMENT..]
 run_x86() {
     ${emulator:+"$emulator"} "$toolchain/lib/ld-linux-x86-64.so.2" --library-path "$toolchain/lib" "$@"

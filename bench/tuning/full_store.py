@@ -1,7 +1,7 @@
 """Mofrindi: writes a state (34 bytes) and a full store to standard output.
 
-All four tables have four live sections with as many records as fit: 1,024 bytes each, but for the DCM, whose data
-length ends at 127.  Channel 1 goes by the first record of every table, channel 3071 by the last one of every table.
+All four tables have four live sections of 1,024 bytes with as many records as fit (a DCM has at most 127), and unknown
+descriptors behind them.  Channel 1 goes by the first record of every table, channel 3071 by the last one of every table.
 """
 
 import os
@@ -11,7 +11,8 @@ sys.dont_write_bytecode = True
 sys.path.insert(0, os.path.join(os.path.dirname(os.path.abspath(__file__)), '..', '..', 'tests', 'second'))
 
 from pieces import Dice
-from plants import Body, build, by10, by125, carriers, digital, mode, spans, trial
+from plants import Body, build, by10, by125, carriers, digital, mode, padded, spans, trial
+from receiver import PLACE_BYTES
 from section import CDS, DCM, MMS, VCM
 from trials import state_bytes
 from tuning_trials import trial_store
@@ -37,10 +38,22 @@ def full_plant():
     return {CDS: cds, MMS: mms, VCM: vcm, DCM: dcm}
 
 
+def filled(section):
+    return section if len(section) == PLACE_BYTES else padded(section, PLACE_BYTES)
+
+
 def main():
+    if len(sys.argv) != 1:
+        sys.exit('full_store.py: takes no arguments')
     dice = Dice(1)
-    full = trial(dice, 'bench', 'full store', build(dice, full_plant()), [])
-    sys.stdout.buffer.write(state_bytes(full.state) + trial_store(full))
+    built = build(dice, full_plant())
+    built = built._replace(pieces=tuple((place, filled(section)) for place, section in built.pieces))
+    full = trial(dice, 'bench', 'full store', built, [])
+    try:
+        sys.stdout.buffer.write(state_bytes(full.state) + trial_store(full))
+        sys.stdout.buffer.flush()
+    except OSError as error:
+        sys.exit('full_store.py: the store cannot be written: %s' % error.strerror)
 
 
 if __name__ == '__main__':

@@ -32,14 +32,19 @@ static int read_pieces(size_t store_length) {
     return 0;
 }
 
-/* The three parts of an answer. What the checks refuse is refused for every channel, but for one above 4095. */
+static int is_of_checks(uint64_t refused) {
+    return refused == 1 << 8 || refused == 2 << 8 || refused == 15 << 8 || refused == 16 << 8;
+}
+
+/* The three parts of an answer. What the checks refuse, and nothing else by these numbers, is refused for every channel up to
+   4095. */
 static int ask(const uint8_t *state, size_t store_length, uint16_t channel) {
     uint64_t parts[3];
     for (uint32_t part = 0; part < 3; part++)
         parts[part] = trial_tune(state, STATE, store, store_length, channel, part);
     uint8_t refusal = trial_check(state, STATE, store, store_length);
-    if (refusal != 0 && channel <= 4095 && parts[0] != (uint64_t)refusal << 8)
-        return fail("tuning does not refuse what the checks refuse");
+    if (channel <= 4095 && (refusal != 0 ? parts[0] != (uint64_t)refusal << 8 : is_of_checks(parts[0])))
+        return fail("tuning and its checks do not refuse the same");
     write_number(parts[0], 8);
     write_number(parts[1], 8);
     write_number(parts[2], 4);

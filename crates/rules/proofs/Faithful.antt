@@ -1,16 +1,16 @@
 -- What the state says of the store is so: of a box that began fresh, or with any state and store of which it was so, every
 -- live place and every held one has the section that it should, whatever is offered. So check 16 passes there.
-use Prim.Native.Nat.{ℕ, zero, suc, _+_, _-_, _<_, _≤_}
+use Prim.Native.Nat.{ℕ, _+_, _-_, _<_, _≤_}
 use native.Mathlib.Omega.{arith}
 use mathlib.Core.Path.{_≡_, refl, sym, ap, _∙_}
 use mathlib.Core.Logic.{_⊎_, inl, inr}
-use mathlib.Core.Bool.{Bool, true, false, _&&_}
+use mathlib.Core.Bool.{Bool, true, false}
 use mathlib.Core.List.{List, [], _∷_}
 use lib.Dec.{leb, eqb}
 use borrow.Author.Tests.{ltb-true, eqb-true, eqb-false, eq-eqb}
 use Rattle.rules.specs.Section.{Content}
 use Rattle.rules.specs.Holding.{limitOf, indexOf, placeOf, sectionAt, holdingOf, liveAt, gatheredAt, noneLive, noneGathered, freshHolding, fresh, holds, isGathered, liveFormed, holdingFormed, heldWith, goneLive, gathering, stepOf, otherMap, takesIn, Box, answerTo, boxAfter, run}
-use Rattle.rules.specs.Tuning.{tableLive, allLive, liveCount, liveReading, readsAs, every, placeReads, tableReads, allRead}
+use Rattle.rules.specs.Tuning.{tableLive, allLive, liveCount, liveReading, isSection, readsAs, placeReads, tableReads, allRead}
 use Rattle.rules.specs.declared.Table.{Table}
 use Rattle.rules.specs.declared.Table.the-variants.{Cds, Mms, Vcm, Dcm}
 use Rattle.rules.specs.declared.Holding.{Holding}
@@ -22,6 +22,7 @@ use Rattle.rules.proofs.Right.{Right, one-right, reads-right}
 use Rattle.rules.proofs.Steps.{formed, gathered-clauses, gathered-last, held-before, Taking, taken-cases}
 use Rattle.rules.proofs.Store.{same-section, section-there}
 use Rattle.rules.proofs.Offers.{same-table, table-formed, NotOf, TakenIn, taken-in, untouched, map-kept, limit-kept, others-kept, step-holds, place-kept, other-places}
+use Rattle.rules.proofs.LivePlaces.{every-so, four-so, four-at}
 use Rattle.rules.proofs.GoingLive.{map-by, Wanted}
 
 -- of a table: the place of each live section, and of each held one, has that section of that version, for our map
@@ -184,15 +185,10 @@ faithful-fresh map store = record { map = refl; tables = each }
 
 -- ---- refusal 16
 
-every-so : (n : ℕ) (test : ℕ → Bool) → ((k : ℕ) → k < n → test k ≡ true) → every n test ≡ true
-unfolding every
-every-so zero test f = refl
-every-so (suc n) test f = rw (every-so n test (λ k lt. f k (omega arith)), f n (omega arith)) refl
-
 module _ (start : State) (b : Box) (f : FaithfulBox start b) (t : Table) where
   place-reads : (n : ℕ) → Wanted start t (holdingOf (b .state) t .live .version) (holdingOf (b .state) t .live .last) n (sectionAt (b .store) (liveAt (b .state) t n))
       → placeReads (b .state) (b .store) t n ≡ true
-  unfolding placeReads liveReading readsAs
+  unfolding placeReads liveReading readsAs isSection otherMap
   place-reads n w =
       let ours : otherMap (b .state) (w .content) ≡ false = map-by (b .state) start (w .content) (f .map) ∙ w .ours in
       simp (
@@ -214,15 +210,7 @@ module _ (start : State) (b : Box) (f : FaithfulBox start b) (t : Table) where
 -- all four
 pub all-read : (start : State) (b : Box) → FaithfulBox start b → allLive (b .state) ≡ true → allRead (b .state) (b .store) ≡ true
 unfolding allLive allRead
-all-read start b f e =
-    let three = both-left (tableLive (b .state) Cds && tableLive (b .state) Mms && tableLive (b .state) Vcm) _ e in
-    let two = both-left (tableLive (b .state) Cds && tableLive (b .state) Mms) _ three in
-    simp (
-      table-reads start b f Cds (both-left (tableLive (b .state) Cds) _ two),
-      table-reads start b f Mms (both-right (tableLive (b .state) Cds) _ two),
-      table-reads start b f Vcm (both-right (tableLive (b .state) Cds && tableLive (b .state) Mms) _ three),
-      table-reads start b f Dcm (both-right (tableLive (b .state) Cds && tableLive (b .state) Mms && tableLive (b .state) Vcm) _ e),
-    )
+all-read start b f e = four-so (tableReads (b .state) (b .store)) (λ t. table-reads start b f t (four-at (tableLive (b .state)) e t))
 
 -- whatever stood in the store and whatever is offered to a fresh box: once all tables are live, check 16 passes
 pub run-reads : (map : ℕ) (store : List ℕ) (sections : List (List ℕ)) → allLive (run (record { state = fresh map; store = store }) sections .state) ≡ true

@@ -18,3 +18,5 @@ pub mod Asking
 pub mod Search
 pub mod Tunes
 pub mod Lowest
+pub mod LivePlaces
+pub mod Answered

@@ -1,5 +1,6 @@
 -- What a channel number is tuned to, told without the rule's own search and tests: document 01, "From number to tuner", and
--- of "Numbers of refusal" 17 to 21. Down to "the laws" stands what a reader must believe; the theorems stand at the end.
+-- of "Numbers of refusal" 17 to 21. Down to "the laws" stands what a reader must believe; the theorems stand at the end. Two words
+-- are the rule's: `carrierKhz`, "first + k x spacing, each in its own unit", and `hidden`, of which `hidden-is` says what it is.
 use Prim.Native.Nat.{ℕ, _+_, _-_, _<_, _≤_}
 use native.Mathlib.Omega.{arith}
 use mathlib.Core.Path.{_≡_, refl, sym, ap, _∙_}
@@ -7,14 +8,12 @@ use mathlib.Core.Logic.{_⊎_, inl, inr}
 use mathlib.Core.Bool.{Bool, true, false, cond, _&&_}
 use mathlib.Core.List.{List, [], _∷_, _++_, append-nil}
 use mathlib.Core.Option.{Option, none, some}
-use lib.ListN.{length}
 use lib.Dec.{leb, ltb, eqb}
 use borrow.Author.Tests.{ltb-true, ltb-false, leb-true, leb-false, eqb-true, eqb-false, lt-ltb, le-ltb, le-leb, lt-leb, eq-eqb, ne-eqb}
 use Rattle.rules.specs.Layout.{Numbered}
 use Rattle.rules.specs.Tables.{carrierKhz}
-use Rattle.rules.specs.Holding.{limitOf, storeSize, wellFormed}
 use Rattle.rules.specs.Search.{first}
-use Rattle.rules.specs.Tuning.{allLive, allRead, Plant, plant, covers, isCarrier, isMode, isChannel, isRange, definedBy, defined, needs, found, hidden, tuneSignal, inReach, tuneKhz, tuneCarrier, tuneChannel, lookUp, tune}
+use Rattle.rules.specs.Tuning.{Plant, plant, covers, isCarrier, isMode, isChannel, isRange, definedBy, defined, needs, found, hidden, tuneSignal, inReach, tuneKhz, tuneCarrier, tuneChannel, lookUp, tune}
 use Rattle.rules.specs.declared.Carriers.{Carriers}
 use Rattle.rules.specs.declared.Mode.{Mode}
 use Rattle.rules.specs.declared.Channel.{Channel}
@@ -298,12 +297,14 @@ module _ (p : Plant) (number : ℕ) where
   looked-only t (no-record d w) = rw (hits (range-test number) (d .first), eq-eqb (d .range .what .defined) 1 (d .is), misses (channel-test number) w)
   looked-only t (recorded {e = e} d f u) = rw (hits (range-test number) (d .first), eq-eqb (d .range .what .defined) 1 (d .is), hits (channel-test number) f) (sym (tunes-only p (e .what) t u))
 
--- past the checks of 1, 2, 14, 15 and 16
-pub tune-looks-up : (s : State) (store : List ℕ) (number : ℕ) → storeSize (limitOf s) ≤ length store → wellFormed s ≡ true → number ≤ 4095
-    → allLive s ≡ true → allRead s store ≡ true → Looked (plant s store) number (tune s store number)
-unfolding tune needs
-tune-looks-up s store number roomy good low live reads =
-    rw (le-leb (storeSize (limitOf s)) (length store) roomy, good, le-leb number 4095 low, live, reads) (looked (plant s store) number)
+-- hidden is type 1
+pub hidden-is : (c : Channel) → ((c .kind ≡ 1) × (hidden c ≡ 1)) ⊎ ((c .kind ≡ 1 → ⊥) × (hidden c ≡ 0))
+unfolding hidden
+hidden-is c = go (eqb (c .kind) 1) refl
+  where
+    go : (b : Bool) → eqb (c .kind) 1 ≡ b → ((c .kind ≡ 1) × _≡_ {A = ℕ} (cond b 1 0) 1) ⊎ ((c .kind ≡ 1 → ⊥) × _≡_ {A = ℕ} (cond b 1 0) 0)
+    go true e = inl (eqb-true (c .kind) 1 e, refl)
+    go false e = inr (eqb-false (c .kind) 1 e, refl)
 
 -- ---- condition 1: from no state and store is the tuner sent to a frequency outside its reach
 

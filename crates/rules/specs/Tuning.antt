@@ -8,7 +8,7 @@ use lib.Dec.{leb, ltb, eqb}
 use Rattle.rules.specs.Layout.{Numbered}
 use Rattle.rules.specs.Tables.{carrierKhz}
 use Rattle.rules.specs.Section.{Structure, carriers, modes, channels, ranges, Reading, wrong, right, readSection}
-use Rattle.rules.specs.Holding.{limitOf, indexOf, storeSize, sectionAt, holdingOf, liveAt, wellFormed, otherMap}
+use Rattle.rules.specs.Holding.{limitOf, indexOf, storeSize, sectionAt, holdingOf, liveAt, wellFormed, notOurs}
 use Rattle.rules.specs.Search.{first, sections}
 use Rattle.rules.specs.declared.Table.{Table}
 use Rattle.rules.specs.declared.Table.the-variants.{Cds, Mms, Vcm, Dcm}
@@ -18,6 +18,7 @@ use Rattle.rules.specs.declared.Channel.{Channel}
 use Rattle.rules.specs.declared.Signal.{Signal}
 use Rattle.rules.specs.declared.Signal.the-variants as Signal
 use Rattle.rules.specs.declared.Range.{Range}
+use Rattle.rules.specs.declared.Revision.{Revision}
 use Rattle.rules.specs.declared.State.{State}
 use Rattle.rules.specs.declared.Tuned.{Tuned}
 use Rattle.rules.specs.declared.Tuned.the-variants as Tuned
@@ -40,14 +41,17 @@ unfoldable pub liveReading : State → List ℕ → Table → (n : ℕ) → Read
 liveReading s store t n = readSection (sectionAt store (liveAt s t n))
 
 -- refusal 16, unless each live place reads right as that table, map, version, number and last
+unfoldable pub isSection : State → Table → (n : ℕ) → (table : Table) → (map : ℕ) → Revision → Bool
+isSection s t n table map r =
+    eqb (indexOf table) (indexOf t)
+    && not (notOurs s table map)
+    && eqb (r .version) (holdingOf s t .live .version)
+    && eqb (r .number) n
+    && eqb (r .last) (holdingOf s t .live .last)
+
 unfoldable pub readsAs : State → Table → (n : ℕ) → Reading → Bool
 readsAs s t n (wrong k) = false
-readsAs s t n (right c) =
-    eqb (indexOf (c .table)) (indexOf t)
-    && not (otherMap s c)
-    && eqb (c .revision .version) (holdingOf s t .live .version)
-    && eqb (c .revision .number) n
-    && eqb (c .revision .last) (holdingOf s t .live .last)
+readsAs s t n (right c) = isSection s t n (c .table) (c .map) (c .revision)
 
 -- the test holds for 0 to n - 1
 unfoldable pub every : (n : ℕ) → (ℕ → Bool) → Bool

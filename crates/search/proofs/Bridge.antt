@@ -1,30 +1,27 @@
 -- The bridge from the records of a section that reads right to the walk of the searches: a live place that passed check 16 reads
 -- right as its table, so its records are those that the walk goes over. Proved once, over the table.
-use Prim.Native.Nat.{ℕ, zero, suc, _<_}
-use native.Mathlib.Omega.{arith}
-use mathlib.Core.Path.{_≡_, refl, sym, ap, _∙_}
-use mathlib.Core.Bool.{Bool, true, false}
+use Prim.Native.Nat.{ℕ, _<_}
+use mathlib.Core.Path.{_≡_, sym, ap, _∙_}
+use mathlib.Core.Bool.{Bool}
 use mathlib.Core.List.{List}
 use mathlib.Core.Option.{Option}
 use lib.ListN.{length}
-use lib.Dec.{eqb}
-use borrow.Author.Tests.{eqb-true, eqb-false}
 use Rattle.rules.specs.Bytes.{Got, got, from}
 use Rattle.rules.specs.Layout.{Numbered, records}
 use Rattle.rules.specs.Tables.{vcmHead, vcm, dcmHead, dcm}
-use Rattle.rules.specs.Section.{Structure, structure, Content, Reading, wrong, right, withoutCrc, readSection, recordsAt}
-use Rattle.rules.specs.Holding.{indexOf, sectionAt, holdingOf, liveAt}
-use Rattle.rules.specs.Tuning.{liveCount, liveReading, readsAs, every, placeReads, tableReads, recordsIn, liveSection, carriersIn, modesIn, channelsIn, rangesIn}
+use Rattle.rules.specs.Section.{Structure, structure, Content, right, withoutCrc, readSection, recordsAt}
+use Rattle.rules.specs.Holding.{sectionAt, liveAt}
+use Rattle.rules.specs.Tuning.{liveCount, liveReading, recordsIn, liveSection, carriersIn, modesIn, channelsIn, rangesIn}
 use Rattle.rules.specs.declared.Table.{Table}
 use Rattle.rules.specs.declared.Table.the-variants.{Cds, Mms, Vcm, Dcm}
 use Rattle.rules.specs.declared.State.{State}
 use Rattle.rules.specs.declared.VcmHead.{VcmHead}
 use Rattle.rules.specs.declared.DcmHead.{DcmHead}
-use Rattle.rules.proofs.Taken.{differ, both-left, both-right, then-got, giving-got, head-got}
+use Rattle.rules.proofs.Taken.{then-got, giving-got, head-got}
 use Rattle.rules.proofs.Places.{from-from}
 use Rattle.rules.proofs.Right.{reads-right}
+use Rattle.rules.proofs.LivePlaces.{table-says}
 use Rattle.rules.proofs.Search.{Before, Within, enter}
-use Rattle.rules.proofs.Store.{same-index}
 use Rattle.search.specs.Live.{Live, RecordOf, layoutOf, recordsOf, walkOf}
 use Rattle.search.specs.declared.Walk.{Walk}
 
@@ -51,24 +48,6 @@ walk-reads Dcm bs x tail e =
     behind-head (λ (v : DcmHead) rest. records dcm (v .length) (v .first) rest) (h .value) _ (h .behind) _ _ (k .1) (k .2 ∙ from-from bs 7 3)
     (g .1 ∙ ap (λ (y : Structure). got (rangesIn y) tail) (sym (g .2)))
 
--- each live place reads right as its table
-every-at : (n : ℕ) (test : ℕ → Bool) → every n test ≡ true → (k : ℕ) → k < n → test k ≡ true
-unfolding every
-every-at zero test e k lt = absurd (omega arith)
-every-at (suc n) test e k lt = go (eqb k n) refl (every-at n test (both-left _ (test n) e) k)
-  where
-    go : (b : Bool) → eqb k n ≡ b → (k < n → test k ≡ true) → test k ≡ true
-    go true q below = rw (eqb-true k n q) (both-right (every n test) _ e)
-    go false q below = let ne = eqb-false k n q in below (omega arith)
-
-reads-table : (s : State) (t : Table) (n : ℕ) (r : Reading) → readsAs s t n r ≡ true → (c : Content) × (r ≡ right c) × (c .table ≡ t)
-unfolding readsAs
-reads-table s t n (wrong k) e = absurd (differ (sym e))
-reads-table s t n (right c) e =
-    let table = both-left (eqb (indexOf (c .table)) (indexOf t)) _ (both-left _ (eqb (c .revision .version) (holdingOf s t .live .version))
-    (both-left _ (eqb (c .revision .number) n) (both-left _ (eqb (c .revision .last) (holdingOf s t .live .last)) e))) in
-    (c, refl, same-index (c .table) t (eqb-true (indexOf (c .table)) (indexOf t) table))
-
 -- the walk over a section that reads right as a table goes over its records
 section-walk : (t : Table) (section : List ℕ) (c : Content) → readSection section ≡ right c → c .table ≡ t → (b : List ℕ) (w : Walk) → b ≡ withoutCrc section → w ≡ walkOf t b
     → (rest : List ℕ) × (records (layoutOf t (w .included)) (w .count) (w .index) (from b (w .at)) ≡ got (recordsIn (recordsOf t) (readSection section)) rest)
@@ -82,8 +61,8 @@ pub enter-live : (s : State) (store : List ℕ) (t : Table) {test : Numbered (Re
     → b ≡ withoutCrc (sectionAt store (liveAt s t i)) → w ≡ walkOf t b → i < liveCount s t
     → Before test (liveSection (recordsOf t) s store t) (liveCount s t) i answer
     → Within (layoutOf t (w .included)) test (liveSection (recordsOf t) s store t) (liveCount s t) i (w .count) (w .index) b (w .at) answer
-unfolding liveSection liveReading tableReads placeReads
+unfolding liveSection liveReading
 enter-live s store t {i = i} live b w p q h before =
-    let place = reads-table s t i (liveReading s store t i) (every-at (liveCount s t) (placeReads s store t) (live .reads) i h) in
-    let walk = section-walk t (sectionAt store (liveAt s t i)) (place .0) (place .1) (place .2) b w p q in
+    let place = table-says s store t (live .reads) i h in
+    let walk = section-walk t (sectionAt store (liveAt s t i)) (place .content) (place .reads) (place .table) b w p q in
     enter before h (walk .0) (walk .1)

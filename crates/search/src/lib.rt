@@ -128,7 +128,7 @@ fn beyond(first: u32, index: u8) -> u8
     index - first as u8
 }
 
-// The frequency in kHz of the first carrier of an index.
+// The frequency in kHz of the first carrier of an index, as its record says it: whether the tuner reaches it is judged by `tuner`.
 pub fn find_carrier(s: State, store: &[u8], index: u8) -> CarrierFound
     requires { ⌜ Live s (now store) table.Cds ⌝ }
     ensures { λ r. ⌜ r ≡ carrierFound index (first (isCarrier index) (liveRecords carriersIn s (now (store .entry)) table.Cds)) ⌝ }

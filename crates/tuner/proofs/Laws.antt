@@ -9,26 +9,26 @@ use lib.ListN.{length}
 use lib.Dec.{leb, eqb}
 use borrow.Author.Tests.{le-leb, lt-leb, leb-true, eqb-true, eqb-false}
 use Rattle.rules.specs.Section.{Reading, wrong, right, withoutCrc, readSection, headOf, readAs}
-use Rattle.rules.specs.Holding.{four, limitOf, storeSize, sectionAt, holdingOf, liveAt, wellFormed, otherMap}
-use Rattle.rules.specs.Tuning.{allLive, readsAs, every, liveReading, placeReads, tableReads, allRead, plant, needs, lookUp, tune}
+use Rattle.rules.specs.Holding.{four, limitOf, storeSize, sectionAt, holdingOf, liveAt, wellFormed}
+use Rattle.rules.specs.Tuning.{isSection, allLive, readsAs, every, liveReading, placeReads, tableReads, allRead, plant, needs, lookUp, tune}
 use Rattle.rules.specs.declared.Table.{Table}
-use Rattle.rules.specs.declared.Table.the-variants.{Cds, Mms, Vcm, Dcm}
 use Rattle.rules.specs.declared.State.{State}
 use Rattle.rules.specs.declared.SectionHead.{SectionHead}
 use Rattle.rules.specs.declared.Read.the-variants as Read
 use Rattle.rules.specs.declared.Tuned.{Tuned}
 use Rattle.rules.specs.declared.Tuned.the-variants as Tuned
-use Rattle.rules.proofs.Taken.{differ, both-left, both-right}
+use Rattle.rules.proofs.Taken.{differ}
 use Rattle.rules.proofs.Steps.{formed}
 use Rattle.rules.proofs.Offers.{table-formed}
 use Rattle.rules.proofs.LiveRecords.{last-low}
+use Rattle.rules.proofs.LivePlaces.{four-at}
 use Rattle.search.specs.Live.{Live}
-use Rattle.tuner.specs.Checks.{headReads, checks, Few}
+use Rattle.tuner.specs.Checks.{checks, Few}
 
 -- ---- check 16 of one place
 
-section-of : (s : State) (t : Table) (n : ℕ) (section : List ℕ) (head : SectionHead) (r : Reading) → Read.Right head ≡ readAs section r → headReads s t n head ≡ readsAs s t n r
-unfolding readAs readsAs headReads otherMap headOf
+section-of : (s : State) (t : Table) (n : ℕ) (section : List ℕ) (head : SectionHead) (r : Reading) → Read.Right head ≡ readAs section r → isSection s t n (head .table) (head .map) (head .revision) ≡ readsAs s t n r
+unfolding readAs readsAs headOf
 section-of s t n section head (wrong k) e = let z : _≡_ {A = ℕ} 0 1 = cc in absurd (omega arith)
 section-of s t n section head (right c) e = let is : head ≡ headOf (withoutCrc section) c = cc in rw is
 
@@ -38,7 +38,7 @@ not-a-section s t n k section (wrong m) e = refl
 not-a-section s t n k section (right c) e = let z : _≡_ {A = ℕ} 0 1 = cc in absurd (omega arith)
 
 module _ (s : State) (store : List ℕ) (t : Table) (n : ℕ) (section : List ℕ) (there : section ≡ sectionAt store (liveAt s t n)) where
-  pub place-right : (head : SectionHead) → Read.Right head ≡ readAs section (readSection section) → headReads s t n head ≡ placeReads s store t n
+  pub place-right : (head : SectionHead) → Read.Right head ≡ readAs section (readSection section) → isSection s t n (head .table) (head .map) (head .revision) ≡ placeReads s store t n
   unfolding placeReads liveReading
   place-right head e = rw (← there) (section-of s t n section head (readSection section) e)
 
@@ -90,22 +90,10 @@ passed s store e =
     let sixteen = passes (allRead s store) 0 16 (fifteen .1) (omega arith) in
     record { roomy = leb-true (storeSize (limitOf s)) (length store) (one .0); good = two .0; live = fifteen .0; reads = sixteen .0 }
 
-all-reads : (s : State) (store : List ℕ) → allRead s store ≡ true → (tableReads s store Cds && tableReads s store Mms && tableReads s store Vcm && tableReads s store Dcm) ≡ true
-unfolding allRead
-all-reads s store e = e
-
 -- every table can be searched
 pub searchable : (s : State) (store : List ℕ) → checks s store ≡ 0 → (t : Table) → Live s store t
-searchable s store e t = record { few = few s (passed s store e .good) .few t; reads = each t }
-  where
-    all : (tableReads s store Cds && tableReads s store Mms && tableReads s store Vcm && tableReads s store Dcm) ≡ true
-    all = all-reads s store (passed s store e .reads)
-
-    each : (t : Table) → tableReads s store t ≡ true
-    each Cds = both-left _ (tableReads s store Mms) (both-left _ (tableReads s store Vcm) (both-left _ (tableReads s store Dcm) all))
-    each Mms = both-right (tableReads s store Cds) _ (both-left _ (tableReads s store Vcm) (both-left _ (tableReads s store Dcm) all))
-    each Vcm = both-right (tableReads s store Cds && tableReads s store Mms) _ (both-left _ (tableReads s store Dcm) all)
-    each Dcm = both-right (tableReads s store Cds && tableReads s store Mms && tableReads s store Vcm) _ all
+unfolding allRead
+searchable s store e t = record { few = few s (passed s store e .good) .few t; reads = four-at (tableReads s store) (passed s store e .reads) t }
 
 -- ---- the checks, one by one
 

@@ -3,10 +3,10 @@
 ghost use mathlib.Core.Path.{_≡_};
 ghost use Prim.Native.Nat.{_<_};
 ghost use Rattle.rules.specs.Holding.{four, holdingOf};
-ghost use Rattle.rules.specs.Tuning.{allLive, placeReads, tableReads, allRead, plant, inReach, tuneSignal, tuneKhz, tuneCarrier, tuneChannel};
+ghost use Rattle.rules.specs.Tuning.{allLive, isSection, placeReads, tableReads, allRead, plant, inReach, tuneSignal, tuneKhz, tuneCarrier, tuneChannel};
 ghost use Rattle.rules.specs.Tuning as rule;
 ghost use Rattle.rules.specs.declared.Signal.the-variants as signal;
-ghost use Rattle.tuner.specs.Checks.{headReads, checks, Few};
+ghost use Rattle.tuner.specs.Checks.{checks, Few};
 use rules::Channel;
 use rules::Read;
 use rules::SectionHead;
@@ -40,7 +40,7 @@ fn all_live(s: State) -> bool
 
 // Whether a section that reads right is section n of a live table: that table, map, version, number and last.
 fn is_section_of(s: State, t: Table, n: u8, head: SectionHead) -> bool
-    ensures { λ x. ⌜ x ≡ headReads s t n head ⌝ }
+    ensures { λ x. ⌜ x ≡ isSection s t n (head .table) (head .map) (head .revision) ⌝ }
 {
     let table = head.table;
     if state::index_of(table) != state::index_of(t) {
