@@ -17,7 +17,7 @@ use Rattle.rules.proofs.LivePlaces.{EachLive, EachReads, live-so, live-
 use Rattle.rules.proofs.Tunes.{Looked, looked, looked-only}
 
 -- checks 1, 2 and 14 are passed
-pub record Asked (s : State) (store : List ℕ) (number : ℕ) : Type 0 where
+pub record Askable (s : State) (store : List ℕ) (number : ℕ) : Type 0 where
   pub roomy : storeSize (limitOf s) ≤ length store
   pub good : wellFormed s ≡ true
   pub low : number ≤ 4095
@@ -30,11 +30,11 @@ pub data Answered (s : State) (store : List ℕ) (number : ℕ) : Tuned → Type
   -- 14: "channel number above 4095"
   high : storeSize (limitOf s) ≤ length store → wellFormed s ≡ true → 4095 < number → Answered s store number (Tuned.Refused 14)
   -- 15: "one of the four tables isn't live"
-  not-live : Asked s store number → (EachLive s → ⊥) → Answered s store number (Tuned.Refused 15)
+  not-live : Askable s store number → (EachLive s → ⊥) → Answered s store number (Tuned.Refused 15)
   -- 16: "a place of a live table no longer reads right as that table, map, version, number and last"
-  unread : Asked s store number → EachLive s → (EachReads s store → ⊥) → Answered s store number (Tuned.Refused 16)
+  unread : Askable s store number → EachLive s → (EachReads s store → ⊥) → Answered s store number (Tuned.Refused 16)
   -- 17 to 21, or what it is tuned to: by the live records
-  looked-up : {x : Tuned} → Asked s store number → EachLive s → EachReads s store → Looked (plant s store) number x → Answered s store number x
+  looked-up : {x : Tuned} → Askable s store number → EachLive s → EachReads s store → Looked (plant s store) number x → Answered s store number x
 
 module _ (s : State) (store : List ℕ) (number : ℕ) where
   pub answered : Answered s store number (tune s store number)
@@ -48,13 +48,13 @@ module _ (s : State) (store : List ℕ) (number : ℕ) where
       go true p true good false low d live e reads = high (leb-true (storeSize (limitOf s)) (length store) p) good (leb-false number 4095 low)
       go true p true good true low d live e reads = checked d live e reads
         where
-          asked : Asked s store number
-          asked = record { roomy = leb-true (storeSize (limitOf s)) (length store) p; good = good; low = leb-true number 4095 low }
+          askable : Askable s store number
+          askable = record { roomy = leb-true (storeSize (limitOf s)) (length store) p; good = good; low = leb-true number 4095 low }
 
           checked : (d : Bool) → allLive s ≡ d → (e : Bool) → allRead s store ≡ e → Answered s store number (needs d 15 (needs e 16 (lookUp (plant s store) number)))
-          checked false live e reads = not-live asked (λ l. differ (sym (live-so s l) ∙ live))
-          checked true live false reads = unread asked (live-says s live) (λ r. differ (sym (reads-so s store r) ∙ reads))
-          checked true live true reads = looked-up asked (live-says s live) (reads-says s store reads) (looked (plant s store) number)
+          checked false live e reads = not-live askable (λ l. differ (sym (live-so s l) ∙ live))
+          checked true live false reads = unread askable (live-says s live) (λ r. differ (sym (reads-so s store r) ∙ reads))
+          checked true live true reads = looked-up askable (live-says s live) (reads-says s store reads) (looked (plant s store) number)
 
   not-so : (b : Bool) → (b ≡ true → ⊥) → b ≡ false
   not-so true ne = absurd (ne refl)

@@ -1,13 +1,13 @@
 -- What the checks leave, what check 16 says of a place, and each stage of a look-up as the rule has it.
-use Prim.Native.Nat.{ℕ, zero, suc, _+_, _<_, _≤_}
+use Prim.Native.Nat.{ℕ, _+_, _<_, _≤_}
 use native.Mathlib.Omega.{arith}
 use native.Mathlib.Numerals.{add-one}
-use mathlib.Core.Path.{_≡_, refl, sym, ap}
-use mathlib.Core.Bool.{Bool, true, false, cond, _&&_}
+use mathlib.Core.Path.{_≡_, refl, sym, ap, _∙_}
+use mathlib.Core.Bool.{Bool, true, false, cond}
 use mathlib.Core.List.{List}
 use lib.ListN.{length}
-use lib.Dec.{leb, eqb}
-use borrow.Author.Tests.{le-leb, lt-leb, leb-true, eqb-true, eqb-false}
+use lib.Dec.{leb}
+use borrow.Author.Tests.{le-leb, lt-leb, leb-true}
 use Rattle.rules.specs.Section.{Reading, wrong, right, withoutCrc, readSection, headOf, readAs}
 use Rattle.rules.specs.Holding.{four, limitOf, storeSize, sectionAt, holdingOf, liveAt, wellFormed}
 use Rattle.rules.specs.Tuning.{isSection, allLive, readsAs, every, liveReading, placeReads, tableReads, allRead, plant, needs, lookUp, tune}
@@ -21,7 +21,7 @@ use Rattle.rules.proofs.Taken.{differ}
 use Rattle.rules.proofs.Steps.{formed}
 use Rattle.rules.proofs.Offers.{table-formed}
 use Rattle.rules.proofs.LiveRecords.{last-low}
-use Rattle.rules.proofs.LivePlaces.{four-at}
+use Rattle.rules.proofs.LivePlaces.{every-at, four-at}
 use Rattle.search.specs.Live.{Live}
 use Rattle.tuner.specs.Checks.{checks, Few}
 
@@ -53,17 +53,11 @@ unfolding every
 every-more n test e q = rw (add-one, e, q)
 
 pub every-fails : (n : ℕ) (test : ℕ → Bool) (k : ℕ) → k < n → test k ≡ false → every n test ≡ false
-unfolding every
-every-fails zero test k lt e = absurd (omega arith)
-every-fails (suc n) test k lt e = go (eqb k n) refl (every-fails n test k)
+every-fails n test k lt e = go (every n test) refl
   where
-    last-false : (b : Bool) → (b && false) ≡ false
-    last-false true = refl
-    last-false false = refl
-
-    go : (b : Bool) → eqb k n ≡ b → (k < n → test k ≡ false → every n test ≡ false) → (every n test && test n) ≡ false
-    go true q below = rw (← eqb-true k n q, e) (last-false (every k test))
-    go false q below = let ne = eqb-false k n q in rw (below (omega arith) e)
+    go : (b : Bool) → every n test ≡ b → b ≡ false
+    go true q = absurd (differ (sym (every-at n test q k lt) ∙ e))
+    go false q = refl
 
 -- ---- what the checks leave
 
