@@ -1,12 +1,13 @@
-// Bytes, parts and descriptors at a place of a slice: every place and every length has an answer. b is a section without its
-// CRC, so what runs past b runs into the CRC: refusal 8.
+// Bytes, parts and descriptors at a place of a slice: every place and every length has an answer, and bytes can be put where
+// there is room. b is a section without its CRC, so what runs past b runs into the CRC: refusal 8.
 ghost use mathlib.Core.Path.{_≡_};
-ghost use Prim.Native.Nat.{_-_, _≤_};
+ghost use Prim.Native.Nat.{_+_, _-_, _≤_};
 ghost use lib.ListN.{length, take};
 ghost use Rattle.rules.specs.Bytes.{from};
 ghost use Rattle.rules.specs.Bytes as rule;
 ghost use Rattle.rules.specs.Descriptors.{descriptor, passed, counted};
 ghost use Rattle.rules.specs.Section.{lengthOf};
+ghost use Rattle.rules.specs.Holding as holding;
 ghost use Rattle.fields.specs.Place.{Stands};
 
 // Byte j, or 0 where there is none.
@@ -47,10 +48,23 @@ pub fn part(b: &[u8], at: usize, n: usize) -> &[u8]
 // L, which counts all that follows the first three bytes; a section takes 3 + L bytes.
 pub fn length_of(s: &[u8]) -> u16
     ensures { λ r. ⌜ r ≡ lengthOf (now (s .entry)) ⌝ }
+    ensures { λ r. ⌜ r ≤ 4095 ⌝ }
 {
     let high = byte(s, 1);
     let low = byte(s, 2);
     (high % 16) as u16 * 256 + low as u16
+}
+
+// Bytes put at a place; every other byte stays.
+pub fn put(store: &mut [u8], at: usize, bytes: &[u8])
+    requires { ⌜ at + length (now bytes) ≤ length (now store) ⌝ }
+    ensures { λ _. ⌜ now (store .exit) ≡ holding.put (now (store .entry)) at (now (bytes .entry)) ⌝ }
+{
+    let mut i = 0;
+    while i < bytes.len() {
+        store[at + i] = bytes[i];
+        i += 1;
+    }
 }
 
 // ---- descriptors

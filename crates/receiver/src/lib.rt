@@ -1,10 +1,8 @@
 // Holding and going live: the state of a box by value, the store that is lent with it, and what an offered section does to
 // both. Refusals 1 and 2, the reader's 3 to 11, 12 and 13; other map, repeat, stored and live.
 ghost use mathlib.Core.Path.{_≡_};
-ghost use Prim.Native.Nat.{_+_, _≤_};
 ghost use lib.ListN.{length};
 ghost use Rattle.rules.specs.Holding.{fresh, with, gatheredAt, takesIn, offered, storeAfter};
-ghost use Rattle.rules.specs.Holding as rule;
 ghost use Rattle.receiver.specs.Taking.{answered, Admitted};
 use rules::Answer;
 use rules::GatheredVersion;
@@ -81,18 +79,6 @@ fn gathered_at(s: State, t: Table, n: u8) -> usize
     state::place_of(t, half, n)
 }
 
-// A section's bytes put at the front of a place; every other byte of the store stays.
-fn put(store: &mut [u8], at: usize, section: &[u8])
-    requires { ⌜ at + length (now section) ≤ length (now store) ⌝ }
-    ensures { λ _. ⌜ now (store .exit) ≡ rule.put (now (store .entry)) at (now (section .entry)) ⌝ }
-{
-    let mut i = 0;
-    while i < section.len() {
-        store[at + i] = section[i];
-        i += 1;
-    }
-}
-
 // ---- an offer
 
 // The answers of steps 5 and 6.
@@ -140,7 +126,7 @@ fn hold(state: State, store: &mut [u8], section: &[u8], head: SectionHead) -> Of
     if takes_in(answer) {
         let t = head.table;
         let at = gathered_at(state, t, head.revision.number);
-        put(store, at, section);
+        fields::put(store, at, section);
         return offered;
     }
     offered

@@ -20,3 +20,4 @@ pub mod Tunes
 pub mod Lowest
 pub mod LivePlaces
 pub mod Answered
+pub mod Pieces

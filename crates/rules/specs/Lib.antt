@@ -8,3 +8,4 @@ pub mod Holding
 pub mod Search
 pub mod Tuning
 pub mod Lineup
+pub mod Feeding

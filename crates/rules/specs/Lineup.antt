@@ -118,17 +118,23 @@ channelLines tuned zero number = []
 channelLines tuned (suc n) number = channelLine number (tuned number) ++ channelLines tuned n (number + 1)
 
 -- "It prints key=value lines in this order: lineup=1, map, sections (offered), refused, cds, mms, vcm, dcm (live version or
--- none), channels (those that tune or are applications), then one line each, ascending."
-unfoldable pub printed : Box → (sections refused : ℕ) → List ℕ
-printed b sections refused =
-    let lines = channelLines (tune (b .state) (b .store)) 4096 0 in
+-- none), channels (those that tune or are applications),
+unfoldable pub heading : State → (sections refused channels : ℕ) → List ℕ
+heading s sections refused channels =
     text "lineup=1\n"
-    ++ line "map=" (decimal (b .state .map))
+    ++ line "map=" (decimal (s .map))
     ++ line "sections=" (decimal sections)
     ++ line "refused=" (decimal refused)
-    ++ versionLines (b .state)
-    ++ line "channels=" (decimal (length lines))
-    ++ flatten lines
+    ++ versionLines s
+    ++ line "channels=" (decimal channels)
+
+-- then one line each, ascending."
+unfoldable pub linesOf : Box → List (List ℕ)
+linesOf b = channelLines (tune (b .state) (b .store)) 4096 0
+
+unfoldable pub printed : Box → (sections refused : ℕ) → List ℕ
+printed b sections refused =
+    heading (b .state) sections refused (length (linesOf b)) ++ flatten (linesOf b)
 
 unfoldable pub printedOf : Box → (sections : List (List ℕ)) → List ℕ
 printedOf b sections = printed (run b sections) (length sections) (refusals (answers b sections))
