@@ -13,7 +13,7 @@ use borrow.Author.Tests.{lt-ltb, le-ltb}
 use Rattle.rules.specs.Holding.{put}
 use Rattle.rules.specs.Lineup.{digits, decimal}
 use Rattle.rules.proofs.Store.{put-length}
-use Rattle.text.specs.Written.{Wrote}
+use Rattle.text.specs.Written.{Wrote, Counts}
 
 -- ---- texts
 
@@ -48,6 +48,13 @@ then {out} {at} {t} {out'} {p} {u} {out''} {r} w x =
       holds =
           x .holds ∙ ap (λ (l : List ℕ). put l p u) (w .holds) ∙ ap (λ (k : ℕ). put (put out at t) k u) (w .behind) ∙ put-then out at t u fits;
     }
+
+-- what was written is within the buffer
+pub counts : {out : List ℕ} {at : ℕ} {t out' : List ℕ} {r : ℕ} → Wrote out at t out' r → Counts r out'
+counts {out} {at} {t} {out'} {r} w =
+    let same : length out' ≡ length out = ap length (w .holds) ∙ put-length out at t (w .room) in
+    let within : r ≤ length out' = omega (arith, w .room, w .behind) in
+    (within, sym (length-take-le r out' within))
 
 -- one byte
 pub put-one : (out : List ℕ) (at b : ℕ) → at < length out → set out at b ≡ put out at (b ∷ [])

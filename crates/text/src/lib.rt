@@ -115,6 +115,14 @@ pub fn heading(out: &mut [u8; 256], s: State, sections: u64, refused: u64, chann
     put_line(out, versions, b"channels=", channels)
 }
 
+// All that is printed of fewer than two bytes.
+pub fn refused(out: &mut [u8; 256]) -> usize
+    ensures { λ r. ⌜ Wrote (now (out .entry)) 0 (text "lineup=refused\n") (now (out .exit)) r ⌝ }
+    ensures { λ r. ⌜ Counts r (now (out .exit)) ⌝ }
+{
+    put(out, 0, b"lineup=refused\n")
+}
+
 // ---- the line of a channel
 
 // What every line has in front.

@@ -1,12 +1,7 @@
 -- The three groups of lines, one behind the other.
-use Prim.Native.Nat.{_≤_}
-use native.Mathlib.Omega.{arith}
-use mathlib.Core.Path.{sym}
-use lib.ListN.{length}
-use lib.Seq.{length-take-le}
 use Rattle.rules.specs.Lineup.{text, line, heading}
 use Rattle.text.specs.Written.{lineOf, countLines}
-use Rattle.text.proofs.Written.{then}
+use Rattle.text.proofs.Written.{then, counts}
 use borrow.Author.Needs.{needs}
 use Rattle.text.proofs.heading.Statement.{statement}
 use Rattle.text.proofs.heading.Tie as tie
@@ -38,8 +33,7 @@ unfolding heading countLines lineOf line text
 returns c =
     let b = c .before .before .before in
     let a = b .before .before in
-    let k : c .put-line .result ≤ length (c .put-line .last .0) = omega (arith, c .put-line .ensures .1 .room, c .put-line .ensures .1 .behind, c .put-line .kept .0) in
-    (then (then (a .put-counts .ensures .1) (b .put-versions .ensures .1)) (c .put-line .ensures .1), (k, sym (length-take-le _ _ k)))
+    (then (then (a .put-counts .ensures .1) (b .put-versions .ensures .1)) (c .put-line .ensures .1), counts (c .put-line .ensures .1))
 
 pub heading-spec : {M : Type 1} → statement M
 heading-spec =

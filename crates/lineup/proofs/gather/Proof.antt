@@ -1,0 +1,33 @@
+-- A fresh box is fed all pieces, and at the end what is kept is its last section.
+use native.Mathlib.Omega.{arith}
+use mathlib.Core.Path.{sym, refl}
+use lib.Seq.{length-take-le}
+use denote.Ref.{now}
+use borrow.Author.Needs.{needs}
+use Rattle.lineup.proofs.Laws.{gathered}
+use Rattle.lineup.proofs.gather.Statement.{statement}
+use Rattle.lineup.proofs.gather.Tie as tie
+
+kept-there : tie.Need-slice-aggregate-finish
+kept-there c =
+    let f = c .before .before .before .before .before .before .before .follow in
+    sym (length-take-le _ _ (omega (arith, f .ensures .short, f .kept .1 .1 .0, c .before .before .before .before .before .before .before .before .before .before .before .before .before .pre .0)))
+
+returns : tie.Need-returns
+returns c =
+    let f = c .before .before .before .before .before .before .before .before .before .before .follow in
+    let a = c .before .before .before .before .before .before .before .before .before .before .before .before .before .before .before .before .args in
+    gathered (a .map) _ _ _ (f .result) (now (a .store)) _ _ _ (c .before .before .before .before .before .before .before .before .before .before .before .before .before .start .ensures) refl refl (c .before .before .before .before .before .before .before .before .before .before .before .before .before .before .before .before .pre .1) (f .ensures) (c .before .before .finish .ensures)
+
+pub gather-spec : {M : Type 1} → statement M
+gather-spec =
+    tie.close
+    (tie.spec
+    (λ c κs. search needs)
+    (λ c κs. search needs)
+    (λ c. search needs)
+    kept-there
+    (λ c κs. search needs)
+    (λ c. search needs)
+    (λ c. search needs)
+    returns)

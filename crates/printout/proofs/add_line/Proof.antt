@@ -1,0 +1,28 @@
+-- The look-up is the rule's tuning, its line is written behind the others, and it is one at most.
+use native.Mathlib.Omega.{arith}
+use mathlib.Core.Path.{_≡_, sym, ap, _∙_}
+use lib.ListN.{length}
+use borrow.Author.Needs.{needs}
+use Rattle.rules.specs.Lineup.{channelLine}
+use Rattle.printout.proofs.Laws.{added, one-line}
+use Rattle.printout.proofs.add_line.Statement.{statement}
+use Rattle.printout.proofs.add_line.Tie as tie
+
+add-count : tie.Need-add-t11
+add-count c = omega (arith, c .before .before .before .before .before .lines-of .ensures, one-line (c .before .before .before .before .before .before .before .before .before .args .number) (c .before .before .before .before .before .before .look-up .result), c .before .before .before .before .before .before .before .before .before .pre .1 .1, c .before .before .before .before .before .before .before .before .before .fits .number)
+
+returns : tie.Need-returns
+returns c =
+    let w = c .before .before .before .channel-line .ensures in
+    added (c .before .before .before .before .before .before .before .before .before .args .number) (c .before .before .before .before .before .before .look-up .ensures) (w .1) (w .0) (c .before .before .before .before .before .lines-of .ensures)
+
+pub add-line-spec : {M : Type 1} → statement M
+add-line-spec =
+    tie.close
+    (tie.spec
+    (λ c κs. search needs)
+    (λ c κs. search needs)
+    (λ c κs. search needs)
+    add-count
+    (λ c. search needs)
+    returns)

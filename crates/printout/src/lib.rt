@@ -1,0 +1,82 @@
+// The printed line-up of a box, in two lent buffers: the lines in front, and one line for each channel that tunes or is an
+// application, ascending. The checks of tuning are paid once for all channels.
+ghost use mathlib.Core.Path.{_≡_};
+ghost use Prim.Native.Nat.{_+_, _≤_};
+ghost use mathlib.Core.List.{flatten};
+ghost use lib.ListN.{length};
+ghost use Rattle.rules.specs.Tuning.{tune};
+ghost use Rattle.rules.specs.Lineup.{channelLine, linesOf};
+ghost use Rattle.tuner.specs.Checks.{checks};
+ghost use Rattle.text.specs.Written.{Wrote, Counts};
+ghost use Rattle.printout.specs.Lines.{boxOf, headingOf, Adds};
+use rules::State;
+
+// Room for 4,096 lines.
+pub const LINES: usize = 1183744;
+
+// How many lines were written, and how many bytes they take.
+pub struct Lines {
+    pub count: u64,
+    pub size: usize,
+}
+
+// How many bytes of each buffer were written.
+pub struct Printed {
+    pub heading: usize,
+    pub lines: usize,
+}
+
+// The line of one channel, if it has one, behind the lines so far.
+fn add_line(state: State, store: &[u8], out: &mut [u8], number: u16, lines: Lines) -> Lines
+    requires { ⌜ checks state (now store) ≡ 0 ⌝ }
+    requires { ⌜ (lines .size + 289 ≤ length (now out)) × (lines .count ≤ number) ⌝ }
+    ensures { λ r. ⌜ Adds (channelLine number (tune state (now (store .entry)) number)) (now (out .entry)) lines (now (out .exit)) r ⌝ }
+{
+    let tuned = tuner::look_up(state, store, number);
+    let more = text::lines_of(number, tuned);
+    let size = text::channel_line(out, lines.size, number, tuned);
+    Lines {
+        count: lines.count + more,
+        size,
+    }
+}
+
+// The lines of all channels.
+pub fn channel_lines(state: State, store: &[u8], out: &mut [u8; 1183744]) -> Lines
+    ensures { λ r. ⌜ Wrote (now (out .entry)) 0 (flatten (linesOf (boxOf state (now (store .entry))))) (now (out .exit)) (r .size) ⌝ }
+    ensures { λ r. ⌜ r .count ≡ length (linesOf (boxOf state (now (store .entry)))) ⌝ }
+    ensures { λ r. ⌜ Counts (r .size) (now (out .exit)) ⌝ }
+{
+    let mut lines = Lines { count: 0, size: 0 };
+    if tuner::check(state, store) != 0 {
+        return lines;
+    }
+    let mut number = 0;
+    while number < 4096 {
+        lines = add_line(state, store, out, number, lines);
+        number += 1;
+    }
+    lines
+}
+
+// The whole line-up: the first bytes of the one buffer, and behind them the first bytes of the other.
+pub fn print(
+    state: State,
+    store: &[u8],
+    sections: u64,
+    refused: u64,
+    heading: &mut [u8; 256],
+    lines: &mut [u8; 1183744],
+) -> Printed
+    ensures { λ r. ⌜ Wrote (now (heading .entry)) 0 (headingOf (boxOf state (now (store .entry))) sections refused) (now (heading .exit)) (r .heading) ⌝ }
+    ensures { λ r. ⌜ Wrote (now (lines .entry)) 0 (flatten (linesOf (boxOf state (now (store .entry))))) (now (lines .exit)) (r .lines) ⌝ }
+    ensures { λ r. ⌜ Counts (r .heading) (now (heading .exit)) ⌝ }
+    ensures { λ r. ⌜ Counts (r .lines) (now (lines .exit)) ⌝ }
+{
+    let written = channel_lines(state, store, lines);
+    let size = text::heading(heading, state, sections, refused, written.count);
+    Printed {
+        heading: size,
+        lines: written.size,
+    }
+}
