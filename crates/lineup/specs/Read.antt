@@ -2,10 +2,10 @@
 -- the pieces that came, and says what they led to.
 use Prim.Native.Nat.{ℕ, _≤_}
 use mathlib.Core.Path.{_≡_}
-use mathlib.Core.List.{List, [], _++_}
+use mathlib.Core.List.{List, _++_}
 use lib.ListN.{length, take}
 use Rattle.rules.specs.Lineup.{lineup}
-use Rattle.rules.specs.Feeding.{Intake, begin, feedAll, finish}
+use Rattle.rules.specs.Feeding.{Intake, feedAll}
 use Rattle.stream.specs.declared.Tally.{Tally}
 use Rattle.stream.specs.Tallied.{intakeOf, Room, Grew}
 use Rattle.lineup.specs.declared.Held.{Held}
@@ -25,11 +25,6 @@ pub record Fed (i : Intake) (t : Tally) (n : ℕ) (h : Held) (store buffer : Lis
   pub is : heldIn h store buffer ≡ feedAll i pieces
   pub short : h .kept ≤ 4097
   pub grew : Grew t (h .tally) n
-
--- the pieces of a whole input were fed to a fresh box
-pub record Gathered (map : ℕ) (t : Tally) (store : List ℕ) : Type 0 where
-  pub pieces : List (List ℕ)
-  pub is : intakeOf t store [] ≡ finish (feedAll (begin map) pieces)
 
 -- the two texts, one behind the other, are the line-up of the bytes that were read
 pub record Shown (heading lines : List ℕ) : Type 0 where

@@ -2,12 +2,13 @@
 // 3 + L bytes; an unfinished last one is offered as it is. What is printed is the rules' line-up of the bytes that the reads
 // gave, in a row.
 ghost use mathlib.Core.Path.{_≡_};
-ghost use Prim.Native.Nat.{_+_, _*_, _≤_, _<_};
+ghost use Prim.Native.Nat.{_+_, _≤_, _<_};
 ghost use mathlib.Core.List.{[]};
 ghost use lib.ListN.{length, take, replicate};
 ghost use Rattle.stream.specs.Tallied.{intakeOf, Room};
 ghost use Rattle.text.specs.Written.{Counts};
-ghost use Rattle.lineup.specs.Read.{Ready, heldIn, Fed, Gathered, Shown};
+ghost use Rattle.printout.specs.Shown.{Gathered};
+ghost use Rattle.lineup.specs.Read.{Ready, heldIn, Fed, Shown};
 use libc::STDIN_FILENO;
 use libc::STDOUT_FILENO;
 use printout::Printed;
@@ -105,12 +106,6 @@ fn gather(map: u16, store: &mut [u8], buffer: &mut [u8]) -> Tally
     stream::finish(tally, store, &buffer[..kept])
 }
 
-fn map_of(high: u8, low: u8) -> u16
-    ensures { λ r. ⌜ r ≡ high * 256 + low ⌝ }
-{
-    high as u16 * 256 + low as u16
-}
-
 // The line-up of what is read, in the two buffers.
 fn line_up(
     store: &mut [u8],
@@ -130,9 +125,8 @@ fn line_up(
             lines: 0,
         };
     }
-    let tally = gather(map_of(map[0], map[1]), store, buffer);
-    let state = tally.state;
-    printout::print(state, store, tally.sections, tally.refused, heading, lines)
+    let tally = gather(stream::map_of(&map), store, buffer);
+    printout::print(tally, store, heading, lines)
 }
 
 fn main() {

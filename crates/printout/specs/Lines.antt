@@ -6,15 +6,16 @@ use lib.ListN.{length}
 use Rattle.rules.specs.Holding.{Box}
 use Rattle.rules.specs.Lineup.{heading, linesOf}
 use Rattle.rules.specs.declared.State.{State}
+use Rattle.stream.specs.declared.Tally.{Tally}
 use Rattle.text.specs.Written.{Wrote}
 use Rattle.printout.specs.declared.Lines.{Lines}
 
 unfoldable pub boxOf : State → (store : List ℕ) → Box
 boxOf s store = record { state = s; store = store }
 
--- the lines in front of a box's channels
-unfoldable pub headingOf : Box → (sections refused : ℕ) → List ℕ
-headingOf b sections refused = heading (b .state) sections refused (length (linesOf b))
+-- the lines in front of the channels
+unfoldable pub headingOf : Tally → (store : List ℕ) → List ℕ
+headingOf t store = heading (t .state) (t .sections) (t .refused) (length (linesOf (boxOf (t .state) store)))
 
 -- the lines `more` (one at most) were written behind those that a has counted, and r counts them too
 pub record Adds (more : List (List ℕ)) (out : List ℕ) (a : Lines) (out' : List ℕ) (r : Lines) : Type 0 where

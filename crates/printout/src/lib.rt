@@ -10,6 +10,7 @@ ghost use Rattle.tuner.specs.Checks.{checks};
 ghost use Rattle.text.specs.Written.{Wrote, Counts};
 ghost use Rattle.printout.specs.Lines.{boxOf, headingOf, Adds};
 use rules::State;
+use stream::Tally;
 
 // Room for 4,096 lines.
 pub const LINES: usize = 1183744;
@@ -59,22 +60,16 @@ pub fn channel_lines(state: State, store: &[u8], out: &mut [u8; 1183744]) -> Lin
     lines
 }
 
-// The whole line-up: the first bytes of the one buffer, and behind them the first bytes of the other.
-pub fn print(
-    state: State,
-    store: &[u8],
-    sections: u64,
-    refused: u64,
-    heading: &mut [u8; 256],
-    lines: &mut [u8; 1183744],
-) -> Printed
-    ensures { λ r. ⌜ Wrote (now (heading .entry)) 0 (headingOf (boxOf state (now (store .entry))) sections refused) (now (heading .exit)) (r .heading) ⌝ }
-    ensures { λ r. ⌜ Wrote (now (lines .entry)) 0 (flatten (linesOf (boxOf state (now (store .entry))))) (now (lines .exit)) (r .lines) ⌝ }
+// The whole line-up of a tally: the first bytes of the one buffer, and behind them the first bytes of the other.
+pub fn print(t: Tally, store: &[u8], heading: &mut [u8; 256], lines: &mut [u8; 1183744]) -> Printed
+    ensures { λ r. ⌜ Wrote (now (heading .entry)) 0 (headingOf t (now (store .entry))) (now (heading .exit)) (r .heading) ⌝ }
+    ensures { λ r. ⌜ Wrote (now (lines .entry)) 0 (flatten (linesOf (boxOf (t .state) (now (store .entry))))) (now (lines .exit)) (r .lines) ⌝ }
     ensures { λ r. ⌜ Counts (r .heading) (now (heading .exit)) ⌝ }
     ensures { λ r. ⌜ Counts (r .lines) (now (lines .exit)) ⌝ }
 {
+    let state = t.state;
     let written = channel_lines(state, store, lines);
-    let size = text::heading(heading, state, sections, refused, written.count);
+    let size = text::heading(heading, state, t.sections, t.refused, written.count);
     Printed {
         heading: size,
         lines: written.size,

@@ -4,7 +4,7 @@ ghost use mathlib.Core.Path.{_≡_};
 ghost use Prim.Native.Nat.{_+_, _-_, _≤_};
 ghost use mathlib.Core.List.{[], _∷_};
 ghost use lib.ListN.{length, take};
-ghost use Rattle.rules.specs.Bytes.{from};
+ghost use Rattle.rules.specs.Bytes.{word, from};
 ghost use Rattle.rules.specs.Holding.{put};
 ghost use Rattle.rules.specs.Lineup.{refusals};
 ghost use Rattle.rules.specs.Feeding.{taking, unfinished};
@@ -30,6 +30,13 @@ pub struct Fed {
 pub struct Absorbed {
     pub tally: Tally,
     pub kept: usize,
+}
+
+// The map number that an input begins with.
+pub fn map_of(input: &[u8]) -> u16
+    ensures { λ r. ⌜ r ≡ word 0 (now (input .entry)) ⌝ }
+{
+    fields::byte(input, 0) as u16 * 256 + fields::byte(input, 1) as u16
 }
 
 // 1 for a refusal, else 0.

@@ -2,8 +2,11 @@
 use Prim.Native.Nat.{ℕ, _+_, _*_}
 use mathlib.Core.Bool.{cond}
 use mathlib.Core.List.{List}
-use lib.Dec.{eqb}
+use lib.Dec.{eqb, ltb}
+use lib.ListN.{length}
 use Rattle.rules.specs.Bytes.{byte}
+use Rattle.rules.specs.Holding.{put}
+use Rattle.rules.specs.Lineup.{lineup}
 use Rattle.rules.specs.declared.Holding.{Holding}
 use Rattle.rules.specs.declared.Mode.{Mode}
 use Rattle.rules.specs.declared.State.{State}
@@ -104,3 +107,11 @@ tunedPart t part =
     cond (eqb part 0) (tunedHead t)
     (cond (eqb part 1) (tunedRest t)
     (cond (eqb part 2) (tunedSymbols t) 0))
+
+-- ---- the line-up of an input, where there is room for the longest
+
+unfoldable pub lineupSize : (input : List ℕ) → (room : ℕ) → ℕ
+lineupSize input room = cond (ltb room 1184000) 0 (length (lineup input))
+
+unfoldable pub lineupIn : (input out : List ℕ) → List ℕ
+lineupIn input out = cond (ltb (length out) 1184000) out (put out 0 (lineup input))

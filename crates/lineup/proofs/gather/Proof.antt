@@ -4,7 +4,8 @@ use mathlib.Core.Path.{sym, refl}
 use lib.Seq.{length-take-le}
 use denote.Ref.{now}
 use borrow.Author.Needs.{needs}
-use Rattle.lineup.proofs.Laws.{gathered}
+use Rattle.printout.proofs.Shown.{gathered}
+use Rattle.lineup.specs.Read.{heldIn}
 use Rattle.lineup.proofs.gather.Statement.{statement}
 use Rattle.lineup.proofs.gather.Tie as tie
 
@@ -14,10 +15,11 @@ kept-there c =
     sym (length-take-le _ _ (omega (arith, f .ensures .short, f .kept .1 .1 .0, c .before .before .before .before .before .before .before .before .before .before .before .before .before .pre .0)))
 
 returns : tie.Need-returns
+unfolding heldIn
 returns c =
     let f = c .before .before .before .before .before .before .before .before .before .before .follow in
     let a = c .before .before .before .before .before .before .before .before .before .before .before .before .before .before .before .before .args in
-    gathered (a .map) _ _ _ (f .result) (now (a .store)) _ _ _ (c .before .before .before .before .before .before .before .before .before .before .before .before .before .start .ensures) refl refl (c .before .before .before .before .before .before .before .before .before .before .before .before .before .before .before .before .pre .1) (f .ensures) (c .before .before .finish .ensures)
+    gathered (a .map) _ _ _ (now (a .store)) _ (f .ensures .pieces) (c .before .before .before .before .before .before .before .before .before .before .before .before .before .start .ensures) refl refl (c .before .before .before .before .before .before .before .before .before .before .before .before .before .before .before .before .pre .1) (f .ensures .is) (c .before .before .finish .ensures)
 
 pub gather-spec : {M : Type 1} → statement M
 gather-spec =

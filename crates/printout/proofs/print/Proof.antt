@@ -1,11 +1,11 @@
 -- The lines first, since the heading says how many they are.
 use borrow.Author.Needs.{needs}
-use Rattle.printout.specs.Lines.{boxOf, headingOf}
+use Rattle.printout.specs.Lines.{headingOf}
 use Rattle.printout.proofs.print.Statement.{statement}
 use Rattle.printout.proofs.print.Tie as tie
 
 returns : tie.Need-returns
-unfolding headingOf boxOf
+unfolding headingOf
 returns c =
     let l = c .before .before .channel-lines .ensures in
     let h = c .heading .ensures in
