@@ -22,9 +22,8 @@ at-start : (map : ℕ) (t : Tally) (store : List ℕ) → t .state ≡ fresh map
 unfolding intakeOf begin freshBox storeSize limitOf tables
 at-start map t store e s r z = rw (e, s, r, z)
 
-pub gathered : (map : ℕ) (t r : Tally) (i : Intake) (store store' : List ℕ) (pieces : List (List ℕ)) → t .state ≡ fresh map → t .sections ≡ 0 → t .refused ≡ 0 → store ≡ replicate 32768 0 → i ≡ feedAll (intakeOf t store []) pieces → intakeOf r store' [] ≡ finish i → Gathered map r store'
-gathered map t r i store store' pieces e s k z f d =
-    record { pieces = pieces; is = d ∙ ap finish (f ∙ ap (λ (j : Intake). feedAll j pieces) (at-start map t store e s k z)) }
+pub gathered : (map : ℕ) (t r : Tally) (i : Intake) (store store' : List ℕ) (pieces : List (List ℕ)) → t .state ≡ fresh map → t .sections ≡ 0 → t .refused ≡ 0 → store ≡ replicate 32768 0 → i ≡ feedAll (intakeOf t store []) pieces → intakeOf r store' [] ≡ finish i → intakeOf r store' [] ≡ finish (feedAll (begin map) pieces)
+gathered map t r i store store' pieces e s k z f d = d ∙ ap finish (f ∙ ap (λ (j : Intake). feedAll j pieces) (at-start map t store e s k z))
 
 -- the first bytes are what was written at the front
 front : {out t out' : List ℕ} {r : ℕ} → Wrote out 0 t out' r → take r out' ≡ t

@@ -2,7 +2,7 @@
 use Prim.Native.Nat.{ℕ, _+_, _*_}
 use mathlib.Core.Bool.{cond}
 use mathlib.Core.List.{List}
-use lib.Dec.{eqb, ltb}
+use lib.Dec.{eqb, leb}
 use lib.ListN.{length}
 use Rattle.rules.specs.Bytes.{byte}
 use Rattle.rules.specs.Holding.{put}
@@ -108,10 +108,10 @@ tunedPart t part =
     (cond (eqb part 1) (tunedRest t)
     (cond (eqb part 2) (tunedSymbols t) 0))
 
--- ---- the line-up of an input, where there is room for the longest
+-- ---- the line-up of an input, where there is room for it
 
 unfoldable pub lineupSize : (input : List ℕ) → (room : ℕ) → ℕ
-lineupSize input room = cond (ltb room 1184000) 0 (length (lineup input))
+lineupSize input room = cond (leb (length (lineup input)) room) (length (lineup input)) 0
 
 unfoldable pub lineupIn : (input out : List ℕ) → List ℕ
-lineupIn input out = cond (ltb (length out) 1184000) out (put out 0 (lineup input))
+lineupIn input out = cond (leb (length (lineup input)) (length out)) (put out 0 (lineup input)) out

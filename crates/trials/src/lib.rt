@@ -3,12 +3,12 @@
 // caller of trial_offer lends a copy of the store for each. And the line-up of an input in memory, so that one start of a
 // program prints many.
 ghost use mathlib.Core.Path.{_≡_};
-ghost use mathlib.Core.List.{[], _++_};
+ghost use mathlib.Core.List.{[], _∷_, _++_};
 ghost use lib.ListN.{length, take, replicate};
 ghost use Rattle.rules.specs.Holding.{fresh, offered, storeAfter};
 ghost use Rattle.rules.specs.Tuning.{tune};
 ghost use Rattle.rules.specs.Lineup.{lineup};
-ghost use Rattle.rules.specs.Feeding.{begin, feed, finish};
+ghost use Rattle.rules.specs.Feeding.{begin, feedAll, finish};
 ghost use Rattle.tuner.specs.Checks.{checks};
 ghost use Rattle.stream.specs.Tallied.{intakeOf};
 ghost use Rattle.text.specs.Written.{Counts};
@@ -263,7 +263,7 @@ pub extern "C" fn trial_tune(state: &[u8], store: &[u8], channel: u16, part: u32
 // What a fresh box makes of sections that come as one piece.
 fn gather(map: u16, store: &mut [u8], sections: &[u8]) -> Tally
     requires { ⌜ now store ≡ replicate 32768 0 ⌝ }
-    ensures { λ r. ⌜ intakeOf r (now (store .exit)) [] ≡ finish (feed (begin map) (now (sections .entry))) ⌝ }
+    ensures { λ r. ⌜ intakeOf r (now (store .exit)) [] ≡ finish (feedAll (begin map) (now (sections .entry) ∷ [])) ⌝ }
 {
     let start = Tally {
         state: receiver::start(map),
@@ -298,21 +298,25 @@ fn line_up(
     printout::print(tally, store, heading, lines)
 }
 
-// The line-up of a whole input at the front of `out`, and its length. Nothing, where `out` has not room for the longest.
+// The line-up of a whole input at the front of `out`, and its length. Nothing, where `out` has no room for it.
 #[no_mangle]
 pub extern "C" fn trial_lineup(input: &[u8], out: &mut [u8]) -> u64
     ensures { λ r. ⌜ r ≡ lineupSize (now (input .entry)) (length (now (out .entry))) ⌝ }
     ensures { λ _. ⌜ now (out .exit) ≡ lineupIn (now (input .entry)) (now (out .entry)) ⌝ }
 {
-    if out.len() < 1184000 {
-        return 0;
-    }
     let mut store = [0u8; 32768];
     let mut heading = [0u8; 256];
     let mut lines = [0u8; printout::LINES];
     let printed = line_up(input, &mut store, &mut heading, &mut lines);
     let behind = printed.heading;
+    let more = printed.lines;
+    if out.len() < behind {
+        return 0;
+    }
+    if out.len() - behind < more {
+        return 0;
+    }
     fields::put(out, 0, &heading[..behind]);
-    fields::put(out, behind, &lines[..printed.lines]);
-    behind as u64 + printed.lines as u64
+    fields::put(out, behind, &lines[..more]);
+    behind as u64 + more as u64
 }

@@ -19,7 +19,7 @@ unfolding heldIn
 returns c =
     let f = c .before .before .before .before .before .before .before .before .before .before .follow in
     let a = c .before .before .before .before .before .before .before .before .before .before .before .before .before .before .before .before .args in
-    gathered (a .map) _ _ _ (now (a .store)) _ (f .ensures .pieces) (c .before .before .before .before .before .before .before .before .before .before .before .before .before .start .ensures) refl refl (c .before .before .before .before .before .before .before .before .before .before .before .before .before .before .before .before .pre .1) (f .ensures .is) (c .before .before .finish .ensures)
+    record { pieces = f .ensures .pieces; is = gathered (a .map) _ _ _ (now (a .store)) _ (f .ensures .pieces) (c .before .before .before .before .before .before .before .before .before .before .before .before .before .start .ensures) refl refl (c .before .before .before .before .before .before .before .before .before .before .before .before .before .before .before .before .pre .1) (f .ensures .is) (c .before .before .finish .ensures) }
 
 pub gather-spec : {M : Type 1} → statement M
 gather-spec =
