@@ -55,14 +55,27 @@ command_x86() {
     chmod +x "$1"
 }
 
-# archive CRATE: proves what is not proved yet and writes target/staticlib/libCRATE.a
-archive() {
+# proving WHAT COMMAND..: runs a command of the toolchain; where it fails its last lines, and one that says what failed
+proving() {
     local log
-    printf '%s: proving %s and building its archive\n' "$0" "$1" >&2
-    log=$(rt staticlib "$1" 2>&1) || {
+    printf '%s: proving and building %s, some minutes the first time\n' "$0" "$1" >&2
+    shift
+    log=$("$@" 2>&1) || {
         printf '%s\n' "$log" | tail -n 5 >&2
-        printf '%s: rt staticlib %s failed\n' "$0" "$1" >&2
+        printf '%s: %s failed\n' "$0" "$*" >&2
         exit 1
     }
+}
+
+# archive CRATE: proves what is not proved yet and writes target/staticlib/libCRATE.a
+archive() {
+    proving "the archive of $1" rt staticlib "$1"
     mkdir -p target/c
+}
+
+# program CRATE: proves what is not proved yet and writes target/bin/CRATE, and target/c/CRATE, a command that runs it
+program() {
+    proving "$1" rt check "$1"
+    mkdir -p target/c
+    command_x86 "target/c/$1" "target/bin/$1"
 }

@@ -43,11 +43,10 @@ class Failure(Exception):
     """Ends the comparison with one clear line."""
 
 
-def ask(program, items, question):
-    """All answers of the program, one for each item."""
+def written(program, requests):
+    """All that the program writes when it gets these bytes."""
     if os.path.exists(program):
         program = os.path.abspath(program)
-    requests = b''.join(question.request(item) for item in items)
     try:
         done = subprocess.run([program], input=requests, stdout=subprocess.PIPE,
                               stderr=subprocess.PIPE, timeout=PATIENCE)
@@ -59,11 +58,17 @@ def ask(program, items, question):
         said = done.stderr.decode('utf-8', 'replace').strip().splitlines()
         raise Failure('the program exits with %d%s'
                       % (done.returncode, ': ' + said[-1] if said else ''))
+    return done.stdout
+
+
+def ask(program, items, question):
+    """All answers of the program, one for each item."""
+    got = written(program, b''.join(question.request(item) for item in items))
     size = question.size
-    if len(done.stdout) != size * len(items):
+    if len(got) != size * len(items):
         raise Failure('the program answers with %d bytes, not %d'
-                      % (len(done.stdout), size * len(items)))
-    return [done.stdout[at:at + size] for at in range(0, len(done.stdout), size)]
+                      % (len(got), size * len(items)))
+    return [got[at:at + size] for at in range(0, len(got), size)]
 
 
 def print_histogram(items, expected):

@@ -2,6 +2,7 @@
 #define STAND_IN_STRING_H
 #include <stddef.h>
 void *memcpy(void *, const void *, size_t);
+void *memset(void *, int, size_t);
 int memcmp(const void *, const void *, size_t);
 int strcmp(const char *, const char *);
 #endif

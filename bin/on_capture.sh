@@ -1,0 +1,24 @@
+# Source this: on_capture PROGRAM SAMPLE [FILE] proves and builds a program of the repository, if need be, and runs it on a
+# capture: on FILE, on standard input where that is `-`, and on the sample where none is named.
+on_capture() {
+    local name=$1 sample=$2 top
+    shift 2
+    if [ $# -gt 1 ]; then
+        printf '%s: takes one file at most\n' "$0" >&2
+        exit 2
+    fi
+    top=$(cd "$(dirname "${BASH_SOURCE[0]}")/.." && pwd)
+    local capture=${1-$top/$sample}
+    if [ "$capture" = - ]; then
+        exec 3<&0
+    elif [ -f "$capture" ] && [ -r "$capture" ]; then
+        exec 3<"$capture"
+    else
+        printf "%s: '%s' is not a file that can be read\n" "$0" "$capture" >&2
+        exit 2
+    fi
+    cd "$top"
+    . tests/x86.sh
+    program "$name"
+    exec "target/c/$name" <&3
+}
