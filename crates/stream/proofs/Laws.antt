@@ -1,10 +1,9 @@
 -- One section offered is the rules' `taking` of it; a turn of `feed` takes the next whole section, and where none is left the
 -- tally is what the rules feed; the end of the input.
 use Prim.Native.Nat.{ℕ, zero, suc, _+_, _-_, _≤_, _<_}
-use native.Mathlib.Nat.{add-zero, add-assoc}
+use native.Mathlib.Nat.{add-zero}
 use native.Mathlib.Omega.{arith}
 use mathlib.Core.Path.{_≡_, refl, sym, ap, _∙_}
-use mathlib.Core.Bool.{true, false}
 use mathlib.Core.List.{List, [], _∷_, flatten}
 use lib.ListN.{length, take, drop, length-append, length-drop}
 use lib.Seq.{length-take-le, take-all}
@@ -18,7 +17,7 @@ use Rattle.rules.specs.declared.Offered.{Offered}
 use Rattle.rules.proofs.Places.{from-from, from-length}
 use Rattle.rules.proofs.Pieces.{taking-append}
 use Rattle.stream.specs.declared.Tally.{Tally}
-use Rattle.stream.specs.Tallied.{intakeOf, Room, Grew}
+use Rattle.stream.specs.Tallied.{intakeOf, Grew}
 
 -- ---- one section
 

@@ -39,17 +39,6 @@ fn read_at(buffer: &mut [u8], at: usize, n: usize) -> usize
     io::read_full(STDIN_FILENO, &mut buffer[at..at + n])
 }
 
-// L, which counts what follows the first three bytes.
-fn length_of(high: u8, low: u8) -> usize
-    ensures { λ r. ⌜ r ≤ 4095 ⌝ }
-{
-    (high % 16) as usize * 256 + low as usize
-}
-
-fn map_of(high: u8, low: u8) -> u16 {
-    high as u16 * 256 + low as u16
-}
-
 // The next section of the input, at the front of the buffer: how many bytes there are of it, 0 at the end.
 fn next_section(buffer: &mut [u8]) -> usize
     requires { ⌜ 4098 ≤ length (now buffer) ⌝ }
@@ -59,7 +48,7 @@ fn next_section(buffer: &mut [u8]) -> usize
     if got < 3 {
         return got;
     }
-    let rest = length_of(buffer[1], buffer[2]);
+    let rest = fields::length_of(buffer) as usize;
     3 + read_at(buffer, 3, rest)
 }
 
@@ -98,7 +87,7 @@ fn main() {
     let mut store = [0u8; state::STORE];
     let mut buffer = [0u8; LONGEST];
     follow(
-        receiver::start(map_of(map[0], map[1])),
+        receiver::start(stream::map_of(&map)),
         &mut store,
         &mut buffer,
     );

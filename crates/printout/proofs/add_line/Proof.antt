@@ -1,9 +1,6 @@
 -- The look-up is the rule's tuning, its line is written behind the others, and it is one at most.
 use native.Mathlib.Omega.{arith}
-use mathlib.Core.Path.{_≡_, sym, ap, _∙_}
-use lib.ListN.{length}
 use borrow.Author.Needs.{needs}
-use Rattle.rules.specs.Lineup.{channelLine}
 use Rattle.printout.proofs.Laws.{added, one-line}
 use Rattle.printout.proofs.add_line.Statement.{statement}
 use Rattle.printout.proofs.add_line.Tie as tie

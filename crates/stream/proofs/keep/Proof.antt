@@ -1,8 +1,7 @@
 -- After i turns i bytes are moved, and the bytes behind them are as they were.
-use Prim.Native.Nat.{ℕ, _+_, _-_, _≤_, _<_}
+use Prim.Native.Nat.{_-_, _≤_}
 use native.Mathlib.Omega.{arith}
 use mathlib.Core.Path.{_≡_, refl}
-use lib.ListN.{length}
 use denote.Ref.{now}
 use borrow.Author.Needs.{needs}
 use Rattle.stream.proofs.Moved.{Moved, move, move-on, moved}

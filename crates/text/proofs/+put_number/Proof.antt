@@ -30,18 +30,6 @@ abbrev put-number-below : ℕ → In 1 put-number-kinds.ps
 put-number-below t =
     and 1 put-number-kinds.ps (falls 1 put-number-kinds.ps _<_ μ-put-number t) put-number.Pre
 
--- src/lib.rt:46:34
-put-number-digit-requires : (t : ℕ) → put-number-lts.Need-digit-requires (
-  digit-reads.Asked,
-  digit-reads.Learnt,
-  put-byte-reads.Asked,
-  put-byte-reads.Learnt,
-  put-number-below t,
-  put-number.Post,
-) (put-number-at t) put-number.Post
-put-number-digit-requires t c κs = search needs
-
--- src/lib.rt:46:9
 put-number-put-byte-requires : (t : ℕ) → put-number-lts.Need-put-byte-requires (
   digit-reads.Asked,
   digit-reads.Learnt,
@@ -55,18 +43,6 @@ put-number-put-byte-requires t c κs =
     let e = ap length (decimal-digit (s .args .n) (c .before .before .if1 .taken)) in
     omega (arith, s .pre .1)
 
--- src/lib.rt:46:9
-put-number-same-length : (t : ℕ) → put-number-lts.Need-same-length (
-  digit-reads.Asked,
-  digit-reads.Learnt,
-  put-byte-reads.Asked,
-  put-byte-reads.Learnt,
-  put-number-below t,
-  put-number.Post,
-) (put-number-at t) put-number.Post
-put-number-same-length t c = search needs
-
--- src/lib.rt:46:9
 put-number-returns : (t : ℕ) → put-number-lts.Need-returns (
   digit-reads.Asked,
   digit-reads.Learnt,
@@ -81,7 +57,6 @@ put-number-returns t c =
     let e = decimal-digit (s .args .n) (b .before .before .before .if1 .taken) in
     subst (λ (x : List ℕ). Wrote (s .args .out .now) (s .args .at) x (b .put-byte .last .0) (b .put-byte .result)) (ap (λ (d : ℕ). d ∷ []) (b .before .digit .ensures) ∙ sym e) (b .put-byte .ensures)
 
--- src/lib.rt:48:9
 put-number-put-number-requires : (t : ℕ) → put-number-lts.Need-put-number-requires (
   digit-reads.Asked,
   digit-reads.Learnt,
@@ -98,18 +73,6 @@ put-number-put-number-requires t c κs =
       omega (arith, s .pre .1, decimal-step-length n h (s .fits .n .fits)),
     )
 
--- src/lib.rt:49:22
-put-number-digit-requires-2 : (t : ℕ) → put-number-lts.Need-digit-requires-2 (
-  digit-reads.Asked,
-  digit-reads.Learnt,
-  put-byte-reads.Asked,
-  put-byte-reads.Learnt,
-  put-number-below t,
-  put-number.Post,
-) (put-number-at t) put-number.Post
-put-number-digit-requires-2 t c κs = search needs
-
--- src/lib.rt:49:5
 put-number-put-byte-requires-2 : (t : ℕ) → put-number-lts.Need-put-byte-requires-2 (
   digit-reads.Asked,
   digit-reads.Learnt,
@@ -124,18 +87,6 @@ put-number-put-byte-requires-2 t c κs =
     let n = s .args .n in
     omega (arith, s .pre .1, p .put-number .kept .0, p .put-number .ensures .behind, decimal-step-length n (p .before .before .if1 .left) (s .fits .n .fits))
 
--- src/lib.rt:40:1
-put-number-same-length-2 : (t : ℕ) → put-number-lts.Need-same-length-2 (
-  digit-reads.Asked,
-  digit-reads.Learnt,
-  put-byte-reads.Asked,
-  put-byte-reads.Learnt,
-  put-number-below t,
-  put-number.Post,
-) (put-number-at t) put-number.Post
-put-number-same-length-2 t c = search needs
-
--- src/lib.rt:40:1
 put-number-returns-2 : (t : ℕ) → put-number-lts.Need-returns-2 (
   digit-reads.Asked,
   digit-reads.Learnt,
@@ -166,12 +117,12 @@ pub +put-number-spec : {M : Type 1} → statement M
 )
     (put-number-at t)
     put-number.Post
-    (put-number-digit-requires t)
+    (λ c κs. search needs)
     (put-number-put-byte-requires t)
-    (put-number-same-length t)
+    (λ c. search needs)
     (put-number-returns t)
     (put-number-put-number-requires t)
-    (put-number-digit-requires-2 t)
+    (λ c κs. search needs)
     (put-number-put-byte-requires-2 t)
-    (put-number-same-length-2 t)
+    (λ c. search needs)
     (put-number-returns-2 t)

@@ -6,28 +6,7 @@ use Rattle.text.specs.Written.{fieldOf, lineOf}
 use borrow.Author.Needs.{needs}
 use Rattle.text.proofs.put_line.Statement.{statement}
 use Rattle.text.proofs.put_line.Tie as tie
-use Rattle.text.proofs.put_line.Reads as reads
-use Rattle.text.proofs.put_line.Lts as lts
-use Rattle.text.proofs.put.Reads as put-reads
-use Rattle.text.proofs.put_field.Reads as put-field-reads
 
--- src/lib.rt:70:9
-put-field-requires : tie.Need-put-field-requires
-put-field-requires c κs = search needs
-
--- src/lib.rt:71:20
-slice-aggregate-put : tie.Need-slice-aggregate-put
-slice-aggregate-put c = search needs
-
--- src/lib.rt:71:5
-put-requires : tie.Need-put-requires
-put-requires c κs = search needs
-
--- src/lib.rt:66:1
-same-length : tie.Need-same-length
-same-length c = search needs
-
--- src/lib.rt:66:1
 returns : tie.Need-returns
 unfolding lineOf fieldOf text
 returns c =
@@ -37,4 +16,4 @@ returns c =
 
 pub put-line-spec : {M : Type 1} → statement M
 put-line-spec =
-    tie.close (tie.spec put-field-requires slice-aggregate-put put-requires same-length returns)
+    tie.close (tie.spec (λ c κs. search needs) (λ c. search needs) (λ c κs. search needs) (λ c. search needs) returns)

@@ -1,6 +1,6 @@
 -- One piece fed to a fresh box, and what is behind its whole sections offered as the last.
 use mathlib.Core.Path.{refl, ap, _∙_}
-use mathlib.Core.List.{List, [], _∷_}
+use mathlib.Core.List.{[], _∷_}
 use denote.Ref.{now}
 use borrow.Author.Needs.{needs}
 use Rattle.rules.specs.Feeding.{feedAll, finish}
