@@ -1,4 +1,4 @@
-/* Prints the line-ups of many inputs, in one run (the archive of crates/trials). Standard input: for each run the length of
+/* Prints the line-ups of many inputs, in one run (the archive of crates/runs). Standard input: for each run the length of
    its input (4 bytes, lowest first) and the input. Standard output: for each run the length of its line-up, in the same form,
    and the line-up. */
 #include "../numbers.h"

@@ -2,11 +2,8 @@
 use Prim.Native.Nat.{ℕ, _+_, _*_}
 use mathlib.Core.Bool.{cond}
 use mathlib.Core.List.{List}
-use lib.Dec.{eqb, leb}
-use lib.ListN.{length}
+use lib.Dec.{eqb}
 use Rattle.rules.specs.Bytes.{byte}
-use Rattle.rules.specs.Holding.{put}
-use Rattle.rules.specs.Lineup.{lineup}
 use Rattle.rules.specs.declared.Holding.{Holding}
 use Rattle.rules.specs.declared.Mode.{Mode}
 use Rattle.rules.specs.declared.State.{State}
@@ -107,11 +104,3 @@ tunedPart t part =
     cond (eqb part 0) (tunedHead t)
     (cond (eqb part 1) (tunedRest t)
     (cond (eqb part 2) (tunedSymbols t) 0))
-
--- ---- the line-up of an input, where there is room for it
-
-unfoldable pub lineupSize : (input : List ℕ) → (room : ℕ) → ℕ
-lineupSize input room = cond (leb (length (lineup input)) room) (length (lineup input)) 0
-
-unfoldable pub lineupIn : (input out : List ℕ) → List ℕ
-lineupIn input out = cond (leb (length (lineup input)) (length out)) (put out 0 (lineup input)) out

@@ -1,19 +1,12 @@
 // For the tests alone, and no part of the box: the receiver and the tuner behind bytes and numbers, so that C can offer a
 // section to any state with any store, or ask any channel of them, and see what comes of it. One call gives one part, so a
-// caller of trial_offer lends a copy of the store for each. And the line-up of an input in memory, so that one start of a
-// program prints many.
+// caller of trial_offer lends a copy of the store for each.
 ghost use mathlib.Core.Path.{_≡_};
-ghost use mathlib.Core.List.{[], _∷_, _++_};
-ghost use lib.ListN.{length, take, replicate};
+ghost use lib.ListN.{length};
 ghost use Rattle.rules.specs.Holding.{fresh, offered, storeAfter};
 ghost use Rattle.rules.specs.Tuning.{tune};
-ghost use Rattle.rules.specs.Lineup.{lineup};
-ghost use Rattle.rules.specs.Feeding.{begin, feedAll, finish};
 ghost use Rattle.tuner.specs.Checks.{checks};
-ghost use Rattle.stream.specs.Tallied.{intakeOf};
-ghost use Rattle.text.specs.Written.{Counts};
-ghost use Rattle.trials.specs.Coded.{lineupSize, lineupIn, holdingFrom, stateFrom, holdingNumber, statePart, answerNumber, offeredPart, headNumber, digitalNumber, tunedHead, tunedRest, tunedSymbols, tunedPart};
-use printout::Printed;
+ghost use Rattle.trials.specs.Coded.{holdingFrom, stateFrom, holdingNumber, statePart, answerNumber, offeredPart, headNumber, digitalNumber, tunedHead, tunedRest, tunedSymbols, tunedPart};
 use rules::Answer;
 use rules::GatheredVersion;
 use rules::Holding;
@@ -22,7 +15,6 @@ use rules::Mode;
 use rules::Offered;
 use rules::State;
 use rules::Tuned;
-use stream::Tally;
 
 fn holding_from(b: &[u8], at: u8) -> Holding
     ensures { λ x. ⌜ x ≡ holdingFrom (now (b .entry)) at ⌝ }
@@ -256,67 +248,4 @@ pub extern "C" fn trial_tune(state: &[u8], store: &[u8], channel: u16, part: u32
     let given = state_from(state);
     let tuned = tuner::tune(given, store, channel);
     tuned_part(tuned, part)
-}
-
-// ---- the line-up
-
-// What a fresh box makes of sections that come as one piece.
-fn gather(map: u16, store: &mut [u8], sections: &[u8]) -> Tally
-    requires { ⌜ now store ≡ replicate 32768 0 ⌝ }
-    ensures { λ r. ⌜ intakeOf r (now (store .exit)) [] ≡ finish (feedAll (begin map) (now (sections .entry) ∷ [])) ⌝ }
-{
-    let start = Tally {
-        state: receiver::start(map),
-        sections: 0,
-        refused: 0,
-    };
-    let fed = stream::feed(start, store, sections);
-    let used = fed.used;
-    let tally = fed.tally;
-    stream::finish(tally, store, &sections[used..])
-}
-
-// The line-up of a whole input, in two buffers.
-fn line_up(
-    input: &[u8],
-    store: &mut [u8],
-    heading: &mut [u8; 256],
-    lines: &mut [u8; 1183744],
-) -> Printed
-    requires { ⌜ now store ≡ replicate 32768 0 ⌝ }
-    ensures { λ r. ⌜ take (r .heading) (now (heading .exit)) ++ take (r .lines) (now (lines .exit)) ≡ lineup (now (input .entry)) ⌝ }
-    ensures { λ r. ⌜ Counts (r .heading) (now (heading .exit)) ⌝ }
-    ensures { λ r. ⌜ Counts (r .lines) (now (lines .exit)) ⌝ }
-{
-    if input.len() < 2 {
-        return Printed {
-            heading: text::refused(heading),
-            lines: 0,
-        };
-    }
-    let tally = gather(stream::map_of(input), store, &input[2..]);
-    printout::print(tally, store, heading, lines)
-}
-
-// The line-up of a whole input at the front of `out`, and its length. Nothing, where `out` has no room for it.
-#[no_mangle]
-pub extern "C" fn trial_lineup(input: &[u8], out: &mut [u8]) -> u64
-    ensures { λ r. ⌜ r ≡ lineupSize (now (input .entry)) (length (now (out .entry))) ⌝ }
-    ensures { λ _. ⌜ now (out .exit) ≡ lineupIn (now (input .entry)) (now (out .entry)) ⌝ }
-{
-    let mut store = [0u8; 32768];
-    let mut heading = [0u8; 256];
-    let mut lines = [0u8; printout::LINES];
-    let printed = line_up(input, &mut store, &mut heading, &mut lines);
-    let behind = printed.heading;
-    let more = printed.lines;
-    if out.len() < behind {
-        return 0;
-    }
-    if out.len() - behind < more {
-        return 0;
-    }
-    fields::put(out, 0, &heading[..behind]);
-    fields::put(out, behind, &lines[..more]);
-    behind as u64 + more as u64
 }

@@ -3,9 +3,9 @@ use native.Mathlib.Omega.{arith}
 use lib.ListN.{take}
 use denote.Ref.{now}
 use borrow.Author.Needs.{needs}
-use Rattle.trials.proofs.Laws.{no-room, both-put}
-use Rattle.trials.proofs.trial_lineup.Statement.{statement}
-use Rattle.trials.proofs.trial_lineup.Tie as tie
+use Rattle.runs.proofs.Laws.{no-room, both-put}
+use Rattle.runs.proofs.trial_lineup.Statement.{statement}
+use Rattle.runs.proofs.trial_lineup.Tie as tie
 
 returns : tie.Need-returns
 returns c =

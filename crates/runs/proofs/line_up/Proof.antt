@@ -6,9 +6,9 @@ use denote.Ref.{now}
 use borrow.Author.Needs.{needs}
 use Rattle.rules.specs.Lineup.{lineup}
 use Rattle.printout.proofs.Shown.{all-shown, refused-shown}
-use Rattle.trials.proofs.Laws.{two-first}
-use Rattle.trials.proofs.line_up.Statement.{statement}
-use Rattle.trials.proofs.line_up.Tie as tie
+use Rattle.runs.proofs.Laws.{two-first}
+use Rattle.runs.proofs.line_up.Statement.{statement}
+use Rattle.runs.proofs.line_up.Tie as tie
 
 returns : tie.Need-returns
 returns c =

@@ -7,8 +7,8 @@ use Rattle.rules.specs.Feeding.{feedAll, finish}
 use Rattle.stream.specs.Tallied.{intakeOf}
 use Rattle.stream.proofs.Laws.{rest-is}
 use Rattle.printout.proofs.Shown.{gathered}
-use Rattle.trials.proofs.gather.Statement.{statement}
-use Rattle.trials.proofs.gather.Tie as tie
+use Rattle.runs.proofs.gather.Statement.{statement}
+use Rattle.runs.proofs.gather.Tie as tie
 
 returns : tie.Need-returns
 unfolding feedAll

@@ -12,7 +12,7 @@ use Rattle.rules.proofs.Store.{put-length}
 use Rattle.stream.proofs.Laws.{rest-is}
 use Rattle.text.specs.Written.{Wrote}
 use Rattle.text.proofs.Written.{then}
-use Rattle.trials.specs.Coded.{lineupSize, lineupIn}
+use Rattle.runs.specs.Room.{lineupSize, lineupIn}
 
 rest-of : (high low : ℕ) (rest : List ℕ) → flatten (from (high ∷ low ∷ rest) 2 ∷ []) ≡ rest
 unfolding from flatten
