@@ -3,7 +3,7 @@
 #include <stdio.h>
 
 static int fail(const char *what) {
-    fprintf(stderr, "trials: %s\n", what);
+    fprintf(stderr, "test program: %s\n", what);
     return 1;
 }
 

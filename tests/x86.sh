@@ -8,6 +8,7 @@ need() {
 }
 need rt "the Rattle toolchain's command rt is not on the PATH"
 need python3 "python3 is not on the PATH"
+need flock "flock (Debian's util-linux) is not on the PATH"
 
 kit=${RATTLE_HOME:-$(cd "$(dirname "$(readlink -f "$(command -v rt)")")/.." && pwd -P)}
 toolchain=$kit/on/$(uname -m)/toolchain
@@ -55,12 +56,14 @@ command_x86() {
     chmod +x "$1"
 }
 
-# proving WHAT COMMAND..: runs a command of the toolchain; where it fails its last lines, and one that says what failed
+# proving WHAT COMMAND..: runs a command of the toolchain, one at a time where several scripts do; where it fails its last
+# lines, and one that says what failed
 proving() {
     local log
     printf '%s: proving and building %s, some minutes the first time\n' "$0" "$1" >&2
     shift
-    log=$("$@" 2>&1) || {
+    mkdir -p target/c
+    log=$(flock target/c/proving "$@" 2>&1) || {
         printf '%s\n' "$log" | tail -n 5 >&2
         printf '%s: %s failed\n' "$0" "$*" >&2
         exit 1
@@ -70,12 +73,10 @@ proving() {
 # archive CRATE: proves what is not proved yet and writes target/staticlib/libCRATE.a
 archive() {
     proving "the archive of $1" rt staticlib "$1"
-    mkdir -p target/c
 }
 
 # program CRATE: proves what is not proved yet and writes target/bin/CRATE, and target/c/CRATE, a command that runs it
 program() {
     proving "$1" rt check "$1"
-    mkdir -p target/c
     command_x86 "target/c/$1" "target/bin/$1"
 }

@@ -6,9 +6,9 @@ The runs are those of tests/second/runs.py: all long ones, and a part of the oth
 pipe, whole or in pieces of any size, so that reads end anywhere.
 """
 
-import argparse
 import os
 import random
+import signal
 import subprocess
 import sys
 import threading
@@ -18,6 +18,7 @@ sys.path.insert(0, os.path.join(os.path.dirname(os.path.abspath(__file__)), '..'
 
 import lineup
 import runs
+from compare import PATIENCE, Parser, number_from
 
 LONG = 60000            # bytes; such a run needs more than one read, or nearly
 EVERY = 16              # of the other runs, one in so many
@@ -47,11 +48,15 @@ def feed(pipe, pieces):
 
 
 def printed(program, pieces):
-    started = subprocess.Popen([program], stdin=subprocess.PIPE, stdout=subprocess.PIPE)
+    """What a start of the program prints, and its exit status; one that hangs is ended."""
+    started = subprocess.Popen([program], stdin=subprocess.PIPE, stdout=subprocess.PIPE, start_new_session=True)
     feeder = threading.Thread(target=feed, args=(started.stdin, pieces))
+    patience = threading.Timer(PATIENCE, os.killpg, (started.pid, signal.SIGKILL))
     feeder.start()
+    patience.start()
     out = started.stdout.read()
     feeder.join()
+    patience.cancel()
     return out, started.wait()
 
 
@@ -70,10 +75,10 @@ def compare(program, seed, count):
 
 
 if __name__ == '__main__':
-    arguments = argparse.ArgumentParser(description='Compare the program lineup with lineup.py, a start for each run.')
+    arguments = Parser(description='Compare the program lineup with lineup.py, a start for each run.')
     arguments.add_argument('program')
-    arguments.add_argument('--seed', type=int, default=1)
-    arguments.add_argument('--count', type=int, default=800, help='random runs, of which a part is taken')
+    arguments.add_argument('--seed', type=number_from(0), default=1)
+    arguments.add_argument('--count', type=number_from(0), default=800, help='random runs, of which a part is taken')
     given = arguments.parse_args()
     try:
         sys.exit(compare(given.program, given.seed, given.count) != 0)

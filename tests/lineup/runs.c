@@ -19,8 +19,9 @@ static int is_as_it_was(size_t from, size_t to) {
 
 /* One byte of room less than the line-up takes, and nothing is written; then the line-up, and the bytes behind it stay. */
 static int one_run(size_t length) {
-    memset(out, GUARD, BEHIND);
     size_t size = trial_lineup(input, length, out, MOST_OUTPUT - BEHIND);
+    if (size == 0)
+        return fail("there is no line-up");
     memset(out, GUARD, size + BEHIND);
     if (trial_lineup(input, length, out, size - 1) != 0 || !is_as_it_was(0, size + BEHIND))
         return fail("a line-up was written where there is no room for it");

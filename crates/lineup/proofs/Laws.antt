@@ -1,48 +1,64 @@
--- Pieces fed one after the other, from the first read to the end of the input.
-use Prim.Native.Nat.{ℕ, _+_, _≤_}
+-- Pieces fed one after the other, from the first read to the end of the input; and what is printed then.
+use Prim.Native.Nat.{ℕ, _+_, _≤_, _<_}
 use native.Mathlib.Omega.{arith}
-use mathlib.Core.Path.{_≡_, refl, ap, _∙_}
-use mathlib.Core.List.{List, [], _∷_, _++_}
-use lib.ListN.{take}
-use Rattle.rules.specs.Bytes.{from}
+use mathlib.Core.Path.{_≡_, refl, sym, ap, _∙_}
+use mathlib.Core.List.{List, [], _∷_, _++_, flatten, append-nil}
+use lib.ListN.{length, take}
+use Rattle.rules.specs.Bytes.{byte, from}
+use Rattle.rules.specs.Lineup.{lineup}
 use Rattle.rules.specs.Feeding.{Intake, feed, feedAll}
 use Rattle.stream.specs.declared.Tally.{Tally}
+use Rattle.stream.specs.declared.Absorbed.{Absorbed}
 use Rattle.stream.specs.Tallied.{intakeOf, Grew}
-use Rattle.lineup.specs.declared.Held.{Held}
-use Rattle.lineup.specs.Read.{heldIn, Fed}
+use Rattle.lineup.specs.Read.{heldIn, Fed, Shown}
 
-all-fed : (i : Intake) (ps qs : List (List ℕ)) → feedAll (feedAll i ps) qs ≡ feedAll i (ps ++ qs)
+-- ---- pieces
+
+one-more-fed : (i : Intake) (ps : List (List ℕ)) (p : List ℕ) → feed (feedAll i ps) p ≡ feedAll i (ps ++ (p ∷ []))
 unfolding feedAll
-all-fed i [] qs = refl
-all-fed i (p ∷ ps) qs = all-fed (feed i p) ps qs
+one-more-fed i [] p = refl
+one-more-fed i (q ∷ ps) p = one-more-fed (feed i q) ps p
 
-pub fed-first : (t : Tally) (store buffer : List ℕ) (h : Held) → h .tally ≡ t → h .kept ≡ 0 → Fed (intakeOf t store []) t 0 h store buffer
+pub fed-none : (t : Tally) (store buffer : List ℕ) → Fed (intakeOf t store []) t 0 (record { tally = t; kept = 0 }) store buffer
 unfolding feedAll heldIn
-fed-first t store buffer h e k =
-    record { pieces = []; is = rw (e, k); short = omega (arith, k); grew = record { sections = omega (arith, ap (λ (x : Tally). x .sections) e); refused = omega (arith, ap (λ (x : Tally). x .refused) e) } }
+fed-none t store buffer = record { pieces = []; is = refl; short = omega arith; grew = record { sections = omega arith; refused = omega arith } }
 
--- the end of the input: nothing was read, and what is kept is there
-pub fed-none : (h r : Held) (store buffer buffer' : List ℕ) → r .tally ≡ h .tally → r .kept ≡ h .kept → h .kept ≤ 4097 → take (h .kept) buffer' ≡ take (h .kept) buffer → Fed (heldIn h store buffer) (h .tally) 65536 r store buffer'
-unfolding feedAll heldIn
-fed-none h r store buffer buffer' e k short same =
-    record { pieces = []; is = rw (e, k, same); short = omega (arith, k); grew = record { sections = omega (arith, ap (λ (x : Tally). x .sections) e); refused = omega (arith, ap (λ (x : Tally). x .refused) e) } }
+module _ {i : Intake} {t : Tally} {n : ℕ} {h : Absorbed} {store buffer : List ℕ} (k : ℕ) (f : Fed i t n h store buffer) where
+  -- the end of the input: what is kept is still there
+  pub fed-all : (buffer' : List ℕ) → take (h .kept) buffer' ≡ take (h .kept) buffer → n ≤ k → Fed i t k h store buffer'
+  unfolding heldIn
+  fed-all buffer' same le =
+      record {
+        pieces = f .pieces;
+        is = ap (intakeOf (h .tally) store) same ∙ f .is;
+        short = f .short;
+        grew = record { sections = omega (arith, f .grew .sections); refused = omega (arith, f .grew .refused) };
+      }
 
--- a piece was read behind what is kept
-pub fed-one : (h r : Held) (store store' buffer buffer' buffer'' : List ℕ) (got : ℕ) → take (h .kept) buffer' ≡ take (h .kept) buffer → intakeOf (r .tally) store' (take (r .kept) buffer'') ≡ feed (intakeOf (h .tally) store (take (h .kept) buffer')) (take got (from buffer' (h .kept))) → r .kept ≤ 4097 → (n : ℕ) → n ≡ 65536 → Grew (h .tally) (r .tally) n → Fed (heldIn h store buffer) (h .tally) 65536 r store' buffer''
-unfolding feedAll heldIn
-fed-one h r store store' buffer buffer' buffer'' got same e short n size grew =
-    record { pieces = take got (from buffer' (h .kept)) ∷ []; is = rw same at e; short = short; grew = rw size at grew }
+  -- a piece was read behind what is kept
+  pub fed-one : (r : Absorbed) (store' buffer' buffer'' : List ℕ) (got m : ℕ) → take (h .kept) buffer' ≡ take (h .kept) buffer → intakeOf (r .tally) store' (take (r .kept) buffer'') ≡ feed (intakeOf (h .tally) store (take (h .kept) buffer')) (take got (from buffer' (h .kept))) → r .kept ≤ 4097 → Grew (h .tally) (r .tally) m → n + m ≤ k → Fed i t k r store' buffer''
+  unfolding heldIn
+  fed-one r store' buffer' buffer'' got m same e short grew le =
+      let piece = take got (from buffer' (h .kept)) in
+      record {
+        pieces = f .pieces ++ (piece ∷ []);
+        is =
+            e
+            ∙ ap (λ (kept : List ℕ). feed (intakeOf (h .tally) store kept) piece) same
+            ∙ ap (λ (j : Intake). feed j piece) (f .is)
+            ∙ one-more-fed i (f .pieces) piece;
+        short = short;
+        grew = record { sections = omega (arith, f .grew .sections, grew .sections); refused = omega (arith, f .grew .refused, grew .refused) };
+      }
 
-pub fed-then : {i : Intake} {t : Tally} {n : ℕ} {h : Held} {store buffer : List ℕ} {m : ℕ} {r : Held} {store' buffer' : List ℕ} (k : ℕ) → n + m ≤ k → Fed i t n h store buffer → Fed (heldIn h store buffer) (h .tally) m r store' buffer' → Fed i t k r store' buffer'
-fed-then {i} {t} {n} {h} {store} {buffer} {m} {r} {store'} {buffer'} k le a b =
-    record {
-      pieces = a .pieces ++ b .pieces;
-      is = b .is ∙ ap (λ (j : Intake). feedAll j (b .pieces)) (a .is) ∙ all-fed i (a .pieces) (b .pieces);
-      short = b .short;
-      grew = record { sections = omega (arith, a .grew .sections, b .grew .sections); refused = omega (arith, a .grew .refused, b .grew .refused) };
-    }
+-- ---- what is printed
 
--- a wider bound
-pub fed-more : {i : Intake} {t : Tally} {n k : ℕ} {h : Held} {store buffer : List ℕ} → n ≤ k → Fed i t n h store buffer → Fed i t k h store buffer
-fed-more {i} {t} {n} {k} {h} {store} {buffer} le f =
-    record { pieces = f .pieces; is = f .is; short = f .short; grew = record { sections = omega (arith, f .grew .sections); refused = omega (arith, f .grew .refused) } }
+pub refused-alone : (head heading lines : List ℕ) → heading ++ lines ≡ lineup head → Shown head heading lines
+refused-alone head heading lines e = record { rest = []; is = e ∙ ap lineup (sym (append-nil head)); none = λ few. refl }
+
+pub with-rest : (head heading lines rest : List ℕ) → 2 ≤ length head → length head ≤ 2 → heading ++ lines ≡ lineup (byte 0 head ∷ byte 1 head ∷ rest) → Shown head heading lines
+unfolding byte
+with-rest [] heading lines rest h k e = absurd (omega arith)
+with-rest (x ∷ []) heading lines rest h k e = absurd (omega arith)
+with-rest (x ∷ y ∷ []) heading lines rest h k e = record { rest = rest; is = e; none = λ few. absurd (omega (arith, few)) }
+with-rest (x ∷ y ∷ z ∷ more) heading lines rest h k e = absurd (omega arith)

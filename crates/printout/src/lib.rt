@@ -12,7 +12,7 @@ ghost use Rattle.printout.specs.Lines.{boxOf, headingOf, Adds};
 use rules::State;
 use stream::Tally;
 
-// Room for 4,096 lines.
+// Room for 4,096 lines of 289 bytes, the longest if every number had 20 digits.
 pub const LINES: usize = 1183744;
 
 // How many lines were written, and how many bytes they take.

@@ -101,3 +101,7 @@ module _ (t r : Tally) (store store' b b' : List ℕ) (kept got used kept' : ℕ
   pub rest-kept : b' ≡ put b 0 (unfinished (take (kept + got) b))
   unfolding feed intakeOf taking
   rest-kept = m ∙ ap (put b 0) (tail-is ∙ ap (λ (i : Intake). i .kept) fed)
+
+  pub rest-size : kept' ≡ length (unfinished (take (kept + got) b))
+  unfolding feed intakeOf taking
+  rest-size = sym size ∙ ap length (tail-is ∙ ap (λ (i : Intake). i .kept) fed)

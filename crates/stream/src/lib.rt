@@ -115,7 +115,7 @@ pub fn absorb(t: Tally, store: &mut [u8], buffer: &mut [u8], kept: usize, got: u
     ensures { λ r. ⌜ intakeOf (r .tally) (now (store .exit)) (take (r .kept) (now (buffer .exit))) ≡ rule.feed (intakeOf t (now (store .entry)) (take kept (now (buffer .entry)))) (take got (from (now (buffer .entry)) kept)) ⌝ }
     ensures { λ _. ⌜ now (buffer .exit) ≡ put (now (buffer .entry)) 0 (unfinished (take (kept + got) (now (buffer .entry)))) ⌝ }
     ensures { λ r. ⌜ Grew t (r .tally) (length (now (buffer .entry))) ⌝ }
-    ensures { λ r. ⌜ r .kept ≤ 4097 ⌝ }
+    ensures { λ r. ⌜ (r .kept ≡ length (unfinished (take (kept + got) (now (buffer .entry))))) × (r .kept ≤ 4097) ⌝ }
 {
     let have = kept + got;
     let fed = feed(t, store, &buffer[..have]);

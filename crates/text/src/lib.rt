@@ -12,9 +12,6 @@ use rules::Mode;
 use rules::State;
 use rules::Tuned;
 
-// The longest line of a channel, every number with 20 digits.
-pub const LINE: usize = 289;
-
 // ---- text and numbers
 
 // Puts a text at a place, and answers the place behind it.

@@ -1,4 +1,5 @@
--- The pieces of all reads, one after the other. The measure is the number of reads left.
+-- Each read that gives bytes is a piece, fed behind what is kept; one that gives none is the end. The measure is the number of
+-- reads left.
 use Prim.Native.Nat.{_*_, _-_, _≤_}
 use native.Mathlib.Omega.{arith}
 use mathlib.Core.Path.{_≡_, refl, _∙_}
@@ -8,48 +9,52 @@ use denote.Ref.{now}
 use borrow.Author.Needs.{needs}
 use Rattle.stream.specs.Tallied.{intakeOf}
 use Rattle.lineup.specs.Read.{Fed}
-use Rattle.lineup.proofs.Laws.{fed-first, fed-more, fed-then}
+use Rattle.lineup.proofs.Laws.{fed-none, fed-all, fed-one}
 use Rattle.lineup.proofs.follow.Statement.{statement}
 use Rattle.lineup.proofs.follow.Tie as tie
 
 abbrev Inv-loop : tie.InvT-loop
-Inv-loop store₀ buffer₀ h₀ reads₀ store buffer h reads =
+Inv-loop store₀ buffer₀ held₀ reads₀ store buffer held reads =
     (reads ≤ 140737488355328)
     × (length store ≡ length store₀)
     × (length buffer ≡ length buffer₀)
-    × Fed (intakeOf (h₀ .tally) store₀ []) (h₀ .tally) ((140737488355328 - reads) * 65536) h store buffer
+    × Fed (intakeOf (held₀ .tally) store₀ []) (held₀ .tally) ((140737488355328 - reads) * 65536) held store buffer
 
 abbrev μ-loop : tie.MeasureT-loop
-μ-loop store₀ buffer₀ h₀ reads₀ store buffer h reads = reads
+μ-loop store₀ buffer₀ held₀ reads₀ store buffer held reads = reads
 
-turn-requires : tie.Need-turn-requires Inv-loop μ-loop
-turn-requires c κs =
-    let l = c .before .before .before .before .loop in
-    let f = l .inv .3 in
-    let p = c .before .before .before .before .before .before .before .pre in
-    let more = c .before .before .before .loop-test .taken in
-    record {
-      short = f .short;
-      size = l .inv .2 ∙ p .0;
-      room = record { sections = omega (arith, f .grew .sections, p .1 .sections, more, l .inv .0); refused = omega (arith, f .grew .refused, p .1 .refused, more, l .inv .0) };
-    }
+returns : tie.Need-returns Inv-loop μ-loop
+returns c = let l = c .before .before .before .before .before .before .before .loop .inv in fed-all _ (l .3) _ (c .before .before .before .refill .ensures .1) (omega (arith, l .0))
+
+absorb-requires : tie.Need-absorb-requires Inv-loop μ-loop
+absorb-requires c κs =
+    let l = c .before .before .before .before .before .before .before .before .before .loop .inv in
+    let p = c .before .before .before .before .before .before .before .before .before .before .before .before .pre in
+    let f = c .before .before .before .before .before .refill in
+    let more = c .before .before .before .before .before .before .before .before .loop-test .taken in
+    let g = l .3 .grew in (
+      record {
+        sections = omega (arith, g .sections, p .1 .sections, more, l .0, l .2, p .0, f .kept .0);
+        refused = omega (arith, g .refused, p .1 .refused, more, l .0, l .2, p .0, f .kept .0);
+      },
+      omega (arith, f .ensures .0, f .kept .0),
+    )
 
 loop-again : tie.Need-loop-again Inv-loop μ-loop
 loop-again c =
-    let t = c .before .before .before .before .turn in
-    let l = c .before .before .before .before .before .before .before .before .before .loop in
-    let more = c .before .before .before .before .before .before .before .before .loop-test .taken in (
-      omega (arith, l .inv .0),
-      t .kept .1 .0 ∙ l .inv .1,
-      t .kept .1 .1 .0 ∙ l .inv .2,
-      fed-then _ (omega (arith, l .inv .0, more)) (l .inv .3) (t .ensures),
+    let l = c .before .before .before .before .before .before .before .before .before .before .before .before .before .before .loop .inv in
+    let a = c .before .before .before .before .absorb in
+    let f = c .before .before .before .before .before .before .before .before .before .before .refill in
+    let e = a .ensures in (
+      omega (arith, l .0),
+      a .kept .1 .0 ∙ l .1,
+      a .kept .1 .1 .0 ∙ f .kept .0 ∙ l .2,
+      fed-one _ (l .3) (a .result) _ _ _ (f .result) _ (f .ensures .1) (e .0) (e .1 .1 .1 .1) (e .1 .1 .0)
+          (omega (arith, l .0, l .2, c .before .before .before .before .before .before .before .before .before .before .before .before .before .loop-test .taken, c .before .before .before .before .before .before .before .before .before .before .before .before .before .before .before .before .before .pre .0, f .kept .0)),
     )
 
-returns : tie.Need-returns Inv-loop μ-loop
-returns c = let l = c .before .before .loop in fed-more (omega (arith, l .inv .0)) (l .inv .3)
-
 returns-2 : tie.Need-returns-2 Inv-loop μ-loop
-returns-2 c = let l = c .before .loop in fed-more (omega (arith, l .inv .0)) (l .inv .3)
+returns-2 c = let l = c .before .loop .inv in fed-all _ (l .3) _ refl (omega (arith, l .0))
 
 pub follow-spec : {M : Type 1} → statement M
 follow-spec =
@@ -57,14 +62,15 @@ follow-spec =
     (tie.spec
     Inv-loop
     μ-loop
-    (λ c. let a = c .before .before .args in (omega arith, refl, refl, fed-first (a .start) (now (a .store)) (now (a .buffer)) _ refl refl))
-    turn-requires
-    (λ c. search needs)
-    (λ c. search needs)
-    loop-again
+    (λ c. let a = c .before .before .args in (omega arith, refl, refl, fed-none (a .start) (now (a .store)) (now (a .buffer))))
+    (λ c κs. omega (arith, c .before .before .before .loop .inv .3 .short, c .before .before .before .loop .inv .2, c .before .before .before .before .before .before .pre .0))
     (λ c. search needs)
     (λ c. search needs)
     returns
+    absorb-requires
+    (λ c. search needs)
+    (λ c. search needs)
+    loop-again
     (λ c. search needs)
     (λ c. search needs)
     returns-2)

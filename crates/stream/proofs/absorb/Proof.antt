@@ -5,7 +5,7 @@ use mathlib.Core.Path.{sym}
 use lib.Seq.{length-take-le}
 use denote.Ref.{now}
 use borrow.Author.Needs.{needs}
-use Rattle.stream.proofs.Moved.{absorbed, rest-kept}
+use Rattle.stream.proofs.Moved.{absorbed, rest-kept, rest-size}
 use Rattle.stream.proofs.absorb.Statement.{statement}
 use Rattle.stream.proofs.absorb.Tie as tie
 
@@ -35,7 +35,10 @@ returns c =
         rest-kept (a .t) _ (now (a .store)) _ (now (a .buffer)) _ (a .kept) (a .got) _ _ (p .1) (f .ensures .0) within (k .ensures .0) (k .ensures .1),
         (
           record { sections = omega (arith, n, p .1, f .ensures .1 .0 .sections); refused = omega (arith, n, p .1, f .ensures .1 .0 .refused) },
-          omega (arith, n, k .ensures .0, f .ensures .1 .1 .1),
+          (
+            rest-size (a .t) _ (now (a .store)) _ (now (a .buffer)) _ (a .kept) (a .got) _ _ (p .1) (f .ensures .0) within (k .ensures .0) (k .ensures .1),
+            omega (arith, n, k .ensures .0, f .ensures .1 .1 .1),
+          ),
         ),
       ),
     )

@@ -1,5 +1,4 @@
 -- Each turn offers the next whole section, so what is left to do stays the same; where none is left, it is done.
-use Prim.Native.Nat.{_-_}
 use native.Mathlib.Omega.{arith}
 use mathlib.Core.Path.{sym, ap}
 use lib.ListN.{length}
