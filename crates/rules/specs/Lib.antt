@@ -9,3 +9,4 @@ pub mod Search
 pub mod Tuning
 pub mod Lineup
 pub mod Feeding
+pub mod Growth
