@@ -21,3 +21,4 @@ pub mod Lowest
 pub mod LivePlaces
 pub mod Answered
 pub mod Pieces
+pub mod Determined
