@@ -18,7 +18,7 @@ use Rattle.rules.specs.declared.State.{State}
 use Rattle.rules.specs.declared.Revision.{Revision}
 use Rattle.rules.proofs.Taken.{both-left, both-right}
 use Rattle.rules.proofs.Held.{all-lt, holds-all, held-below}
-use Rattle.rules.proofs.Right.{Right, one-right, reads-right}
+use Rattle.rules.proofs.Right.{one-right, reads-right}
 use Rattle.rules.proofs.Steps.{formed, gathered-clauses, gathered-last, held-before, Taking, taken-cases}
 use Rattle.rules.proofs.Store.{same-section, section-there}
 use Rattle.rules.proofs.Offers.{same-table, table-formed, NotOf, TakenIn, taken-in, untouched, map-kept, limit-kept, others-kept, step-holds, place-kept, other-places}
@@ -106,6 +106,13 @@ faithful-same start store after limit t h good same f =
 
 -- ---- a box
 
+-- in the place that it is put into a section is read again
+pub section-placed : (b : Box) (x : List ℕ) (c : Content) → TakenIn b x c → sectionAt (boxAfter b x .store) (gatheredAt (b .state) (c .table) (c .revision .number)) ≡ x
+section-placed b x c k =
+    let r = reads-right x c (k .passed .reads) in
+    ap (λ (l : List ℕ). sectionAt l (gatheredAt (b .state) (c .table) (c .revision .number))) (k .stored)
+    ∙ section-there (b .store) (gatheredAt (b .state) (c .table) (c .revision .number)) x (k .fits) (omega (arith, r .long)) (r .short) (r .whole)
+
 pub record FaithfulBox (start : State) (b : Box) : Type 0 where
   pub map : b .state .map ≡ start .map
   pub tables : (t : Table) → Faithful start (b .store) (limitOf (b .state)) t (holdingOf (b .state) t)
@@ -124,18 +131,10 @@ module _ (start : State) (b : Box) (x : List ℕ) (f : FaithfulBox start b) (c :
   unfolding gatheredAt
   own-table =
       faithful-taken start (limitOf s) (c .table) (holdingOf s (c .table)) (c .revision) (b .store) (after .store) x (k .taking)
-      there elsewhere
+      (section-placed b x c k) elsewhere
       (record { content = c; reads = k .passed .reads; ours = map-by start s c (sym (f .map)) ∙ k .passed .ours; table = refl; revision = refl })
       (f .tables (c .table))
     where
-      r : Right x c
-      r = reads-right x c (k .passed .reads)
-
-      there : sectionAt (after .store) (gatheredAt s (c .table) (c .revision .number)) ≡ x
-      there =
-          ap (λ (l : List ℕ). sectionAt l (gatheredAt s (c .table) (c .revision .number))) (k .stored)
-          ∙ section-there (b .store) (gatheredAt s (c .table) (c .revision .number)) x (k .fits) (omega (arith, r .long)) (r .short) (r .whole)
-
       elsewhere : (half n : ℕ) → half < 2 → n < limitOf s → ((half ≡ 1 - holdingOf s (c .table) .half) × (n ≡ c .revision .number) → ⊥)
           → sectionAt (after .store) (placeOf (limitOf s) (c .table) half n) ≡ sectionAt (b .store) (placeOf (limitOf s) (c .table) half n)
       elsewhere half n halves low ne =

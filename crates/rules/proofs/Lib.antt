@@ -21,4 +21,9 @@ pub mod Lowest
 pub mod LivePlaces
 pub mod Answered
 pub mod Pieces
+pub mod Encoded
+pub mod Grown
+pub mod Apart
+pub mod Again
+pub mod GrownRuns
 pub mod Determined

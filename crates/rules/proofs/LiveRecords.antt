@@ -19,7 +19,7 @@ use Rattle.rules.proofs.Store.{same-section}
 use Rattle.rules.proofs.Offers.{table-formed, NotOf, taken-in, untouched, limit-kept, others-kept, live-kept, live-places}
 
 -- sections that are the same, one by one, have the same records
-same-sections : {R : Type 0} (f g : ℕ → List R) (n i : ℕ) → ((k : ℕ) → k < i + n → f k ≡ g k) → sections f n i ≡ sections g n i
+pub same-sections : {R : Type 0} (f g : ℕ → List R) (n i : ℕ) → ((k : ℕ) → k < i + n → f k ≡ g k) → sections f n i ≡ sections g n i
 unfolding sections
 same-sections f g zero i e = refl
 same-sections f g (suc n) i e = rw (e i (omega arith), same-sections f g n (i + 1) (λ k lt. e k (omega arith))) refl
