@@ -1,22 +1,21 @@
 -- Several growths of one section are one growth: what was put in twice was put in, and the section between them has only one set of
 -- parts, since its bytes say where each of them ends.
-use Prim.Native.Nat.{ℕ, suc, _+_}
+use Prim.Native.Nat.{ℕ}
 use native.Mathlib.Omega.{arith}
-use mathlib.Core.Path.{_≡_, refl, sym, ap, subst, _∙_}
+use mathlib.Core.Path.{_≡_, refl, sym, ap, _∙_}
 use mathlib.Core.Bool.{Bool, true, false}
 use mathlib.Core.List.{List, [], _∷_, _++_, append-assoc}
 use lib.ListN.{length, take, drop}
 use lib.Seq.{take-at, drop-at}
-use Rattle.rules.specs.Bytes.{got, byte, from}
+use Rattle.rules.specs.Bytes.{got, from}
 use Rattle.rules.specs.Descriptors.{Descriptor, descriptor, closing}
-use Rattle.rules.specs.Section.{Content, right, readSection}
+use Rattle.rules.specs.Section.{Content}
 use Rattle.rules.specs.Growth.{FullerList, GrownRevision, GrownClosing, empty, stays, added, revised, Piece, Parts, shape, Sized, Shaped, encoded, pieceBytes, area, bytesOf, FullerPieces, end, next, GrownParts, Grown}
 use Rattle.rules.specs.declared.Table.{Table}
-use Rattle.rules.specs.declared.Table.the-variants.{Cds, Mms, Vcm, Dcm}
 use Rattle.rules.proofs.Right.{one-right}
 use Rattle.rules.proofs.Encoded.{descriptor-encoded, closing-encoded}
 use Rattle.rules.proofs.Apart.{head-shape}
-use Rattle.rules.proofs.Grown.{withClosing, grown-reads}
+use Rattle.rules.proofs.Grown.{grown-reads}
 
 -- ---- growth upon growth
 

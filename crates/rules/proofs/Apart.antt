@@ -12,7 +12,7 @@ use Rattle.rules.specs.Crc.{crcOf}
 use Rattle.rules.specs.Descriptors.{Descriptor}
 use Rattle.rules.specs.Tables.{vcmHead, dcmHead}
 use Rattle.rules.specs.Section.{Structure, structure, Content, withoutCrc, right, readSection, recordsAt}
-use Rattle.rules.specs.Growth.{FullerList, GrownClosing, empty, stays, Piece, Parts, Shape, shape, Sized, Shaped, encoded, area, bytesOf, FullerPieces, end, next, GrownParts, Grown}
+use Rattle.rules.specs.Growth.{FullerList, GrownClosing, empty, stays, Piece, Parts, shape, Shaped, encoded, bytesOf, FullerPieces, end, next, Grown}
 use Rattle.rules.specs.declared.Table.{Table}
 use Rattle.rules.specs.declared.Table.the-variants.{Cds, Mms, Vcm, Dcm}
 use Rattle.rules.proofs.Taken.{unless-got, then-got, giving-got, head-got}

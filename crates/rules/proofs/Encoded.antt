@@ -1,5 +1,6 @@
--- Descriptors, records with their lists, and their bytes: what was written is read back, whatever stands behind it, and what was
--- read was written so. Of records it is said over every layout; that a fuller list makes no difference is here too.
+-- Descriptors, records with their lists, and their bytes: what was written is read back, whatever stands behind it (`-encoded`), and
+-- what was read was written so (`-split`). Of records it is said over every layout, with the law that growth rests on: a record says
+-- what its own bytes say, whatever its list is.
 use Prim.Native.Nat.{ℕ, zero, suc, _+_, _-_, _≤_}
 use native.Mathlib.Omega.{arith}
 use mathlib.Core.Path.{_≡_, refl, sym, ap, _∙_}
@@ -8,7 +9,7 @@ use mathlib.Core.List.{List, [], _∷_, _++_, append-assoc}
 use lib.ListN.{length, take, length-append, take-append-drop}
 use lib.Seq.{length-take-le, take-at, drop-at, take-append-seam, drop-append-seam}
 use borrow.Author.Tests.{le-leb, leb-true}
-use Rattle.rules.specs.Bytes.{Got, got, unless, andThen, giving, byte, from}
+use Rattle.rules.specs.Bytes.{got, unless, andThen, giving, byte, from}
 use Rattle.rules.specs.Descriptors.{Descriptor, descriptor, passed, counted, closing}
 use Rattle.rules.specs.Section.{sizeOf}
 use Rattle.rules.specs.Layout.{Layout, Numbered, numbered, entry, after, records}
@@ -19,6 +20,7 @@ use Rattle.rules.proofs.Places.{descriptor-at}
 
 -- ---- descriptors
 
+-- a descriptor's length says where it ends
 pub descriptor-encoded : (d : Descriptor) (rest : List ℕ) → descriptor (d .tag ∷ length (d .body) ∷ (d .body ++ rest)) ≡ got d rest
 unfolding descriptor unless byte from
 descriptor-encoded d rest =
@@ -40,11 +42,13 @@ descriptor-split (t ∷ n ∷ l) d rest e =
     let two : 0 + 2 + n ≡ suc (suc n) = omega arith in
     rw (h .0, h .1, two, length-take-le n l (omega (arith, h .2)), take-append-drop n l)
 
+-- so many of them
 passed-encoded : (ds : List Descriptor) (rest : List ℕ) → passed (length ds) (encoded ds ++ rest) ≡ got tt rest
 unfolding passed encoded andThen
 passed-encoded [] rest = refl
 passed-encoded (d ∷ ds) rest = rw (append-assoc (d .body) (encoded ds) rest, descriptor-encoded d (encoded ds ++ rest)) (passed-encoded ds rest)
 
+-- one in front of others
 first-split : (bs : List ℕ) (d : Descriptor) (ds : List Descriptor) (behind rest : List ℕ) → descriptor bs ≡ got d behind → behind ≡ encoded ds ++ rest → bs ≡ encoded (d ∷ ds) ++ rest
 unfolding encoded
 first-split bs d ds behind rest e q = descriptor-split bs d behind e ∙ rw (q, append-assoc (d .body) (encoded ds) rest)
@@ -57,6 +61,7 @@ passed-split (suc n) bs rest e =
     let q = passed-split n (t .behind) rest (t .more) in
     (t .value ∷ q .0, ap suc (q .1), first-split bs (t .value) (q .0) (t .behind) rest (t .one) (q .2))
 
+-- all of them, up to the end
 pub closing-encoded : (ds : List Descriptor) → closing (encoded ds) ≡ got ds []
 unfolding encoded giving
 closing-encoded [] = closing-end [] refl
@@ -75,6 +80,7 @@ closing-split bs (d ∷ ds) rest e =
 
 -- ---- behind a record's own bytes
 
+-- a descriptor count and its list, or nothing
 counted-encoded : (d : Bool) (p : Piece) (rest : List ℕ) → (x : List ℕ) × (pieceBytes d p ++ rest ≡ p .own ++ x) × (counted d x ≡ got tt rest)
 unfolding pieceBytes counted unless byte from
 counted-encoded false p rest = (rest, refl, refl)
@@ -113,6 +119,7 @@ module _ {R : Type 0} (l : Layout R) where
             ∙ ap (λ (r : Numbered R). got r y) (ap (λ (r : List ℕ). record { index = index; what = l .look r }) same ∙ sym (t .is)),
       )
 
+  -- so whatever its list is
   entry-same : (index : ℕ) (p q : Piece) (x y : List ℕ) (e : Numbered R) (rest : List ℕ) → length (p .own) ≡ l .size → q .own ≡ p .own
       → entry l index (pieceBytes (l .described) p ++ x) ≡ got e rest → (rest ≡ x) × (entry l index (pieceBytes (l .described) q ++ y) ≡ got e y)
   entry-same index p q x y e rest n same g =
@@ -147,6 +154,7 @@ module _ {R : Type 0} (l : Layout R) where
       let others = records-grown g (s .2) (after l (t .value)) x y (more .0) rest (ap (records l (length ps) (after l (t .value))) (sym (one .0)) ∙ more .1) in
       (others .0, ap (records l (suc (length qs)) index) (append-assoc (pieceBytes (l .described) q) (area (l .described) qs) y) ∙ records-so (length qs) index _ _ (t .value) (more .0) rs y (one .1) (others .1) (more .2))
 
+  -- and where records were read, there are such pieces
   pub records-split : (n index : ℕ) (bs : List ℕ) (rs : List (Numbered R)) (rest : List ℕ) → records l n index bs ≡ got rs rest
       → (ps : List Piece) × (Sized (l .size) (l .described) ps) × (length ps ≡ n) × (bs ≡ area (l .described) ps ++ rest)
   unfolding records area

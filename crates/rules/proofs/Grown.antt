@@ -1,5 +1,5 @@
 -- Condition 3 for one section: grown, it reads as it did, but for what growth put into its closing list.
--- First that of the records of every table, then of the header, the revision and the whole section.
+-- The records come first, over every layout, and then the header, the revision and the whole section.
 use Prim.Native.Nat.{ℕ, suc, _+_, _-_, _/_, _%_, _≤_, _<_}
 use native.Mathlib.Omega.{arith}
 use mathlib.Core.Path.{_≡_, refl, sym, ap, subst, _∙_}
@@ -16,7 +16,7 @@ use Rattle.rules.specs.Descriptors.{Descriptor, closing, bodies}
 use Rattle.rules.specs.Layout.{Layout, Numbered, numbered, bare, records, head}
 use Rattle.rules.specs.Tables.{cds, mms, vcmHead, vcm, dcmHead, dcm}
 use Rattle.rules.specs.Section.{Structure, carriers, modes, channels, ranges, structure, mediumAt, named, given, headerWhole, header, mapOf, revisionTag, revision, Content, contentOf, content, fitting, withoutCrc, whole, right, read, readSection}
-use Rattle.rules.specs.Growth.{Piece, Parts, Shape, shape, Sized, Shaped, encoded, area, bytesOf, FullerPieces, GrownRevision, GrownClosing, GrownParts, Grown, empty, stays, added, revised}
+use Rattle.rules.specs.Growth.{Piece, Parts, shape, Sized, Shaped, encoded, area, bytesOf, FullerPieces, GrownRevision, GrownClosing, GrownParts, Grown, empty, stays, added, revised}
 use Rattle.rules.specs.declared.VcmHead.{VcmHead}
 use Rattle.rules.specs.declared.DcmHead.{DcmHead}
 use Rattle.rules.specs.declared.Table.{Table}
@@ -26,12 +26,14 @@ use Rattle.rules.proofs.Places.{from-length}
 use Rattle.rules.proofs.Right.{Made, made, fitting-long}
 use Rattle.rules.proofs.Encoded.{closing-encoded, records-grown}
 
+-- the same, with another closing list
 abbrev pub withClosing : Content → List Descriptor → Content
 withClosing c ds = record { table = c .table; map = c .map; structure = c .structure; closing = ds; revision = c .revision }
 
--- ---- the records of a table, behind the bytes in front of them
+-- ---- the records of a table
 
--- a table reads its records as one layout's, once its head is good
+-- behind the bytes in front of them, where the head's zero bits are good, a table's records are those of one layout: what follows
+-- is said of that layout, whatever the table
 pub record Laid (t : Table) (front : List ℕ) : Type 1 where
   pub R : Type 0
   pub layout : Layout R
@@ -42,13 +44,13 @@ pub record Laid (t : Table) (front : List ℕ) : Type 1 where
   pub says : List (Numbered R) → Structure
   pub reads : (a b c : ℕ) (rest : List ℕ) → structure t (a ∷ b ∷ c ∷ (front ++ rest)) ≡ unless good 9 (giving says (records layout (shape t front .count) index rest))
 
--- behind the header's seven bytes
+-- CDS and MMS: index and count stand in the header
 counted-reads : {R : Type 0} (l : Layout R) (says : ℕ → List (Numbered R) → Structure) (front rest : List ℕ) (a b c : ℕ) → length front ≡ 4
     → let bs : List ℕ = a ∷ b ∷ c ∷ (front ++ rest) in giving (says (byte 4 bs)) (records l (byte 5 bs) (byte 4 bs) (from bs 7)) ≡ giving (says (byte 1 front)) (records l (byte 2 front) (byte 1 front) rest)
 unfolding byte from
 counted-reads l says front rest a b c n = rw (List·getD-append front rest 0 1 (omega (arith, n)), List·getD-append front rest 0 2 (omega (arith, n)), drop-at front rest 4 n)
 
--- behind a head without limits
+-- VCM and DCM: they stand in the head, which has no limits of its own
 head-reads : {R : Type 0} (l : Layout R) (f : R → List ℕ → Got Structure) (own rest : List ℕ) → length own ≡ l .size → l .fair 0 (l .look own) ≡ true
     → andThen (head l (own ++ rest)) f ≡ unless (l .zeros own) 9 (f (l .look own) rest)
 unfolding head bare numbered from unless giving andThen
@@ -78,7 +80,7 @@ laid Dcm front n =
     let h : DcmHead = dcmHead .look (from front 4) in
     record { R = _; layout = dcm; size = refl; described = refl; good = dcmHead .zeros (from front 4); index = h .first; says = ranges h; reads = λ a b c rest. headed-reads dcmHead _ front rest a b c n refl }
 
--- at the layout, once the shape is known to be its own
+-- the shape's size, list and count are the layout's
 shaped-grown : {R : Type 0} (l : Layout R) (size : ℕ) (described : Bool) (count : ℕ) → size ≡ l .size → described ≡ l .described → {ps qs : List Piece} → FullerPieces ps qs → Sized size described ps → length ps ≡ count → length qs ≡ count
     → (index : ℕ) (x y : List ℕ) (rs : List (Numbered R)) (rest : List ℕ) → records l count index (area described ps ++ x) ≡ got rs rest → (rest ≡ x) × (records l count index (area described qs ++ y) ≡ got rs y)
 shaped-grown l size described count a b f s n m index x y rs rest e =
@@ -90,7 +92,7 @@ reads-so : {R : Type 0} (says : List (Numbered R) → Structure) {good : Bool} {
 unfolding unless giving
 reads-so says a b c = rw (a, b, c)
 
--- what the structure leaves is the closing list
+-- the structure stays, and what it leaves is the closing list
 structure-grown : (t : Table) (p q : Parts) → Shaped t p → Shaped t q → GrownParts p q → (x : Structure) (rest : List ℕ) → structure t (bytesOf t p) ≡ got x rest
     → (rest ≡ encoded (p .closing)) × (structure t (bytesOf t q) ≡ got x (encoded (q .closing)))
 unfolding bytesOf
@@ -103,7 +105,7 @@ structure-grown t p q s s′ g x rest e =
 
 -- ---- the header
 
--- as it is where byte 1 keeps its zero bits, and byte 0 and the last four bytes stay
+-- growth keeps all of it that is looked at: byte 0, the zero bits of byte 1, and the last four bytes
 record SameHeader (a b : List ℕ) : Type 0 where
   long : 7 ≤ length b
   first : byte 0 b ≡ byte 0 a
@@ -158,7 +160,7 @@ module _ (a b : List ℕ) (s : SameHeader a b) where
 
 -- ---- the revision
 
--- it is judged by the bodies of its tag, of which there is one
+-- bodies that are judged alike, one by one
 data Alike : (before after : List (List ℕ)) → Type 0 where
   none : Alike [] []
   one : {xs ys : List (List ℕ)} {x y : List ℕ} → revision (y ∷ []) ≡ revision (x ∷ []) → Alike xs ys → Alike (x ∷ xs) (y ∷ ys)
@@ -200,8 +202,8 @@ bodies-alike (revised {ds} {es} {d} {e} r g) = rw (r .was, r .is) (one (revised-
 
 -- ---- the content
 
--- what is not kept in `Made`
-content-got : (bs : List ℕ) (c : Content) (rest : List ℕ) → content bs ≡ got c rest → (mapOf bs ≡ c .map) × (revision (bodies revisionTag (c .closing)) ≡ got (c .revision) rest)
+-- what `Made` leaves out: the map number and the revision itself
+pub content-got : (bs : List ℕ) (c : Content) (rest : List ℕ) → content bs ≡ got c rest → (mapOf bs ≡ c .map) × (revision (bodies revisionTag (c .closing)) ≡ got (c .revision) rest)
 unfolding content contentOf
 content-got bs c rest e =
     let x = then-got _ _ _ _ (then-got _ _ _ _ e .more) in
@@ -229,7 +231,7 @@ module _ (c : Content) (p q : Parts) (s : Shaped (c .table) p) (s′ : Shaped (c
 
 -- ---- the whole section
 
--- the checks 3 to 6 of a section that reads right, and what it goes on with
+-- a section reads right where it passes the checks 3 to 6 and has content
 pub record Checked (s : List ℕ) (c : Content) : Type 0 where
   pub three : fitting s ≡ true
   pub four : (eqb (byte 0 s) 0xC2 || eqb (byte 0 s) 0xC4) ≡ true
@@ -257,7 +259,7 @@ reads-whole : (s : List ℕ) (c : Content) → Checked s c → readSection s ≡
 unfolding readSection whole read unless
 reads-whole s c k = rw (k .three, k .four, k .five, k .six, k .is)
 
--- the CRC stands behind the first bytes
+-- the bytes that the checks 4 and 6 look at stand before the CRC
 first-bytes : (s : List ℕ) (j : ℕ) → 8 ≤ length s → j < 4 → byte j (withoutCrc s) ≡ byte j s
 unfolding withoutCrc byte
 first-bytes s j long h = getD-take (length s - 4) s j 0 (omega (arith, long, h))

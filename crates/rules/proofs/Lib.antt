@@ -25,5 +25,7 @@ pub mod Encoded
 pub mod Grown
 pub mod Apart
 pub mod Again
+pub mod GrownAsking
+pub mod GrownExamples
 pub mod GrownRuns
 pub mod Determined

@@ -1,0 +1,170 @@
+-- Growth is no empty word: of each table a section and one that it may grow into, with descriptors in the lists of its records, in its
+-- closing list, a longer revision descriptor and other reserved bits; and the example plant, grown whole. All by computation.
+use Prim.Native.Nat.{ℕ}
+use Prim.Native.String.{String}
+use native.Mathlib.Omega.{arith}
+use mathlib.Core.Path.{_≡_, refl}
+use mathlib.Core.List.{List, [], _∷_}
+use Rattle.rules.specs.Descriptors.{Descriptor}
+use Rattle.rules.specs.Section.{modes, channels, ranges, Content, check}
+use Rattle.rules.specs.Holding.{answers}
+use Rattle.rules.specs.Growth.{FullerList, GrownClosing, empty, stays, added, revised, Piece, Parts, end, next, Grown, GrownRun}
+use Rattle.rules.specs.Growth as Growth
+use Rattle.rules.specs.Lineup.{freshBox}
+use Rattle.rules.specs.declared.Table.the-variants.{Mms, Vcm, Dcm}
+use Rattle.rules.specs.declared.Signal.the-variants.{Digital}
+use Rattle.rules.specs.declared.Answer.the-variants.{Live}
+use Rattle.rules.specs.declared.Tuned.the-variants as Tuned
+use Rattle.rules.proofs.Hex.{hex}
+use Rattle.rules.proofs.Computed.{computed}
+use Rattle.rules.proofs.Taken.{differ}
+use Rattle.rules.proofs.Examples.{tuned, c1Content, examplePlant, c7Ranges, c12Mode}
+
+-- a descriptor, and a record with its list
+abbrev d : (tag : ℕ) → (body : String) → Descriptor
+d tag body = record { tag = tag; body = hex body }
+
+abbrev p : (own : String) → List Descriptor → Piece
+p own list = record { own = hex own; list = list }
+
+-- what a section with the record of C9 reads as, with or without lists behind its records
+abbrev c9Content : (included : ℕ) → List Descriptor → Content
+c9Content included closing =
+    record {
+      table = Vcm;
+      map = 0;
+      structure = channels (record { included = included; splice = 0; time = 0; count = 1 }) (record { index = 0; what = record { number = 3; application = 0; path = 0; kind = 0; source = 0x1234; carrier = 2; signal = Digital 3 1 } } ∷ []);
+      closing = closing;
+      revision = record { version = 5; number = 0; last = 0 };
+    }
+
+abbrev carriersPlain : List ℕ
+carriersPlain = hex "C2 30 13 00 01 01 01 02 80 30 81 C8 00 93 03 E5 00 00 74 9E FB E2"
+
+abbrev carriersGrown : List ℕ
+carriersGrown = hex "C2 00 20 00 01 01 01 02 80 30 81 C8 02 93 00 80 01 AA 81 00 93 05 05 00 00 AA BB C0 02 01 02 7D BB 44 30"
+
+abbrev modesPlain : List ℕ
+modesPlain = hex "C2 30 14 00 01 01 02 2F 08 00 4D 29 AD 00 93 03 E5 00 00 CE 5B B1 EE"
+
+abbrev modesGrown : List ℕ
+modesGrown = hex "C2 10 1C 00 01 01 02 2F 08 00 4D 29 AD 01 80 03 AA BB CC 93 03 E5 00 00 81 01 01 3E 66 9E A1"
+
+abbrev rangesPlain : List ℕ
+rangesPlain = hex "C4 30 13 00 01 00 00 00 02 03 83 05 81 93 03 E5 00 00 90 74 69 2E"
+
+abbrev rangesGrown : List ℕ
+rangesGrown = hex "C4 20 17 00 01 00 00 00 02 03 83 05 81 80 01 AA 93 04 65 00 00 01 16 10 DA D5"
+
+abbrev channelsPlain : List ℕ
+channelsPlain = hex "C4 30 1D 00 00 00 00 00 00 00 00 00 00 01 00 03 00 12 34 02 00 03 01 93 03 E5 00 00 43 E6 31 47"
+
+abbrev channelsGrown : List ℕ
+channelsGrown = hex "C4 30 23 00 00 00 00 00 00 00 00 00 00 01 00 03 00 12 34 02 00 03 01 80 00 80 01 AA 93 04 E5 00 00 FF FC 57 77 66"
+
+abbrev includedPlain : List ℕ
+includedPlain = hex "C4 30 24 00 00 00 00 20 00 00 00 00 00 01 00 03 00 12 34 02 00 03 01 01 80 01 AA 81 01 01 93 03 E5 00 00 00 26 34 92"
+
+abbrev includedGrown : List ℕ
+includedGrown = hex "C4 00 2C 00 00 00 00 20 00 00 00 00 00 01 00 03 00 12 34 02 00 03 01 03 82 00 80 01 AA 93 02 00 00 81 01 01 82 00 93 03 05 00 00 C0 1C 90 E1"
+
+pub carriers-grow : Grown carriersPlain carriersGrown
+unfolding computed
+carriers-grow =
+    record {
+      content = c1Content (d 0x93 "E5 00 00" ∷ []) (record { version = 5; number = 0; last = 0 });
+      reads = refl;
+      before = record { number = 0xC2; flags = 0x30; low = 0x13; front = hex "00 01 01 01"; pieces = (p "02 80 30 81 C8" [] ∷ []); closing = (d 0x93 "E5 00 00" ∷ []) };
+      after = record { number = 0xC2; flags = 0x00; low = 0x20; front = hex "00 01 01 01"; pieces = (p "02 80 30 81 C8" (d 0x93 "" ∷ d 0x80 "AA" ∷ []) ∷ []); closing = (d 0x81 "" ∷ d 0x93 "05 00 00 AA BB" ∷ d 0xC0 "01 02" ∷ []) };
+      was = refl;
+      is = refl;
+      shaped = record { front = refl; sized = (refl, λ e. absurd (differ e), tt); count = refl };
+      reshaped = record { front = refl; sized = (refl, λ e. absurd (differ e), tt); count = refl };
+      grows = record { number = refl; zeros = refl; front = refl; pieces = next refl (FullerList.added (d 0x93 "") (FullerList.added (d 0x80 "AA") FullerList.empty)) end; closing = added (d 0x81 "") (λ e. omega (arith, e)) (revised {d = d 0x93 "E5 00 00"} {e = d 0x93 "05 00 00 AA BB"} (record { was = refl; is = refl; long = omega arith; version = refl; more = hex "AA BB"; rest = refl }) (added (d 0xC0 "01 02") (λ e. omega (arith, e)) empty)) };
+      fits = refl;
+      crc = refl;
+    }
+
+pub modes-grow : Grown modesPlain modesGrown
+unfolding computed
+modes-grow =
+    record {
+      content = record { table = Mms; map = 0; structure = modes 1 (record { index = 1; what = c12Mode } ∷ []); closing = d 0x93 "E5 00 00" ∷ []; revision = record { version = 5; number = 0; last = 0 } };
+      reads = refl;
+      before = record { number = 0xC2; flags = 0x30; low = 0x14; front = hex "00 01 01 02"; pieces = (p "2F 08 00 4D 29 AD" [] ∷ []); closing = (d 0x93 "E5 00 00" ∷ []) };
+      after = record { number = 0xC2; flags = 0x10; low = 0x1C; front = hex "00 01 01 02"; pieces = (p "2F 08 00 4D 29 AD" (d 0x80 "AA BB CC" ∷ []) ∷ []); closing = (d 0x93 "E5 00 00" ∷ d 0x81 "01" ∷ []) };
+      was = refl;
+      is = refl;
+      shaped = record { front = refl; sized = (refl, λ e. absurd (differ e), tt); count = refl };
+      reshaped = record { front = refl; sized = (refl, λ e. absurd (differ e), tt); count = refl };
+      grows = record { number = refl; zeros = refl; front = refl; pieces = next refl (FullerList.added (d 0x80 "AA BB CC") FullerList.empty) end; closing = stays (d 0x93 "E5 00 00") (added (d 0x81 "01") (λ e. omega (arith, e)) empty) };
+      fits = refl;
+      crc = refl;
+    }
+
+pub ranges-grow : Grown rangesPlain rangesGrown
+unfolding computed
+ranges-grow =
+    record {
+      content = record { table = Dcm; map = 0; structure = ranges (record { first = 2; length = 3 }) c7Ranges; closing = d 0x93 "E5 00 00" ∷ []; revision = record { version = 5; number = 0; last = 0 } };
+      reads = refl;
+      before = record { number = 0xC4; flags = 0x30; low = 0x13; front = hex "00 01 00 00 00 02 03"; pieces = (p "83" [] ∷ p "05" [] ∷ p "81" [] ∷ []); closing = (d 0x93 "E5 00 00" ∷ []) };
+      after = record { number = 0xC4; flags = 0x20; low = 0x17; front = hex "00 01 00 00 00 02 03"; pieces = (p "83" [] ∷ p "05" [] ∷ p "81" [] ∷ []); closing = (d 0x80 "AA" ∷ d 0x93 "65 00 00 01" ∷ []) };
+      was = refl;
+      is = refl;
+      shaped = record { front = refl; sized = (refl, λ e. refl, (refl, λ e. refl, (refl, λ e. refl, tt))); count = refl };
+      reshaped = record { front = refl; sized = (refl, λ e. refl, (refl, λ e. refl, (refl, λ e. refl, tt))); count = refl };
+      grows = record { number = refl; zeros = refl; front = refl; pieces = next refl FullerList.empty (next refl FullerList.empty (next refl FullerList.empty end)); closing = added (d 0x80 "AA") (λ e. omega (arith, e)) (revised {d = d 0x93 "E5 00 00"} {e = d 0x93 "65 00 00 01"} (record { was = refl; is = refl; long = omega arith; version = refl; more = hex "01"; rest = refl }) empty) };
+      fits = refl;
+      crc = refl;
+    }
+
+pub channels-grow : Grown channelsPlain channelsGrown
+unfolding computed
+channels-grow =
+    record {
+      content = c9Content 0 (d 0x93 "E5 00 00" ∷ []);
+      reads = refl;
+      before = record { number = 0xC4; flags = 0x30; low = 0x1D; front = hex "00 00 00 00 00 00 00 00 00 00 01"; pieces = (p "00 03 00 12 34 02 00 03 01" [] ∷ []); closing = (d 0x93 "E5 00 00" ∷ []) };
+      after = record { number = 0xC4; flags = 0x30; low = 0x23; front = hex "00 00 00 00 00 00 00 00 00 00 01"; pieces = (p "00 03 00 12 34 02 00 03 01" [] ∷ []); closing = (d 0x80 "" ∷ d 0x80 "AA" ∷ d 0x93 "E5 00 00 FF" ∷ []) };
+      was = refl;
+      is = refl;
+      shaped = record { front = refl; sized = (refl, λ e. refl, tt); count = refl };
+      reshaped = record { front = refl; sized = (refl, λ e. refl, tt); count = refl };
+      grows = record { number = refl; zeros = refl; front = refl; pieces = next refl FullerList.empty end; closing = added (d 0x80 "") (λ e. omega (arith, e)) (added (d 0x80 "AA") (λ e. omega (arith, e)) (revised {d = d 0x93 "E5 00 00"} {e = d 0x93 "E5 00 00 FF"} (record { was = refl; is = refl; long = omega arith; version = refl; more = hex "FF"; rest = refl }) empty)) };
+      fits = refl;
+      crc = refl;
+    }
+
+pub included-grow : Grown includedPlain includedGrown
+unfolding computed
+included-grow =
+    record {
+      content = c9Content 1 (d 0x81 "01" ∷ d 0x93 "E5 00 00" ∷ []);
+      reads = refl;
+      before = record { number = 0xC4; flags = 0x30; low = 0x24; front = hex "00 00 00 00 20 00 00 00 00 00 01"; pieces = (p "00 03 00 12 34 02 00 03 01" (d 0x80 "AA" ∷ []) ∷ []); closing = (d 0x81 "01" ∷ d 0x93 "E5 00 00" ∷ []) };
+      after = record { number = 0xC4; flags = 0x00; low = 0x2C; front = hex "00 00 00 00 20 00 00 00 00 00 01"; pieces = (p "00 03 00 12 34 02 00 03 01" (d 0x82 "" ∷ d 0x80 "AA" ∷ d 0x93 "00 00" ∷ []) ∷ []); closing = (d 0x81 "01" ∷ d 0x82 "" ∷ d 0x93 "05 00 00" ∷ []) };
+      was = refl;
+      is = refl;
+      shaped = record { front = refl; sized = (refl, λ e. absurd (differ e), tt); count = refl };
+      reshaped = record { front = refl; sized = (refl, λ e. absurd (differ e), tt); count = refl };
+      grows = record { number = refl; zeros = refl; front = refl; pieces = next refl (FullerList.added (d 0x82 "") (FullerList.stays (d 0x80 "AA") (FullerList.added (d 0x93 "00 00") FullerList.empty))) end; closing = stays (d 0x81 "01") (added (d 0x82 "") (λ e. omega (arith, e)) (revised {d = d 0x93 "E5 00 00"} {e = d 0x93 "05 00 00"} (record { was = refl; is = refl; long = omega arith; version = refl; more = []; rest = refl }) empty)) };
+      fits = refl;
+      crc = refl;
+    }
+
+-- the example plant, grown
+abbrev grownPlant : List (List ℕ)
+grownPlant = carriersGrown ∷ modesGrown ∷ rangesGrown ∷ channelsGrown ∷ []
+
+pub plant-grows : GrownRun examplePlant grownPlant
+plant-grows = Growth.grown carriers-grow (Growth.grown modes-grow (Growth.grown ranges-grow (Growth.grown channels-grow Growth.end)))
+
+-- what it answers and tunes, computed once more on the grown sections
+pub grown-answers : answers (freshBox 0) grownPlant ≡ Live 5 ∷ Live 5 ∷ Live 5 ∷ Live 5 ∷ []
+unfolding computed
+grown-answers = refl
+
+pub grown-tuned : tuned grownPlant 3 ≡ Tuned.Digital 0 0 63000 3 c12Mode
+unfolding computed
+grown-tuned = refl
