@@ -17,9 +17,9 @@ use Rattle.rules.specs.declared.Table.{Table}
 use Rattle.rules.specs.declared.Table.the-variants.{Cds, Mms, Vcm, Dcm}
 use Rattle.rules.proofs.Taken.{unless-got, then-got, giving-got, head-got}
 use Rattle.rules.proofs.Places.{from-length}
-use Rattle.rules.proofs.Right.{reads-right}
+use Rattle.rules.proofs.Right.{whole-got, reads-right}
 use Rattle.rules.proofs.Encoded.{closing-split, records-split}
-use Rattle.rules.proofs.Grown.{laid, header-facts, checked}
+use Rattle.rules.proofs.Grown.{laid, header-facts}
 
 -- ---- nothing added
 
@@ -86,7 +86,7 @@ apart t bs x ds n e =
 
 pub grown-itself : (s : List ℕ) (c : Content) → readSection s ≡ right c → Grown s s
 grown-itself s c e =
-    let k = checked s c e in
+    let k = whole-got s c e in
     let m = reads-right s c e .made in
     let p = apart (c .table) (withoutCrc s) (c .structure) (c .closing) (header-facts _ _ _ (m .headed) .0) (m .built ∙ ap (got (c .structure)) (closing-split _ _ _ (m .closed))) in
     record {

@@ -1,8 +1,8 @@
 -- Condition 3 for one section: grown, it reads as it did, but for what growth put into its closing list.
 -- The records come first, over every layout, and then the header, the revision and the whole section.
-use Prim.Native.Nat.{ℕ, suc, _+_, _-_, _/_, _%_, _≤_, _<_}
+use Prim.Native.Nat.{ℕ, suc, _+_, _-_, _/_, _≤_, _<_}
 use native.Mathlib.Omega.{arith}
-use mathlib.Core.Path.{_≡_, refl, sym, ap, subst, _∙_}
+use mathlib.Core.Path.{_≡_, refl, sym, ap, _∙_}
 use mathlib.Core.Bool.{Bool, true, false, cond, _&&_, _||_}
 use mathlib.Core.List.{List, [], _∷_, _++_}
 use mathlib.Core.Option.{some}
@@ -10,20 +10,20 @@ use lib.ListN.{length, length-append, List·getD-append}
 use lib.Seq.{take-at, drop-at, drop-append-le, getD-take, getD-drop}
 use lib.Dec.{ltb, eqb}
 use borrow.Author.Tests.{leb-true, le-leb, lt-ltb, eq-eqb, ne-eqb}
-use Rattle.rules.specs.Bytes.{Got, refused, got, unless, andThen, giving, byte, from}
+use Rattle.rules.specs.Bytes.{Got, got, unless, andThen, giving, byte, from}
 use Rattle.rules.specs.Crc.{crcOf}
 use Rattle.rules.specs.Descriptors.{Descriptor, closing, bodies}
 use Rattle.rules.specs.Layout.{Layout, Numbered, numbered, bare, records, head}
 use Rattle.rules.specs.Tables.{cds, mms, vcmHead, vcm, dcmHead, dcm}
-use Rattle.rules.specs.Section.{Structure, carriers, modes, channels, ranges, structure, mediumAt, named, given, headerWhole, header, mapOf, revisionTag, revision, Content, contentOf, content, fitting, withoutCrc, whole, right, read, readSection}
+use Rattle.rules.specs.Section.{Structure, carriers, modes, channels, ranges, structure, mediumAt, named, given, headerWhole, header, mapOf, revisionTag, revision, Content, contentOf, content, withoutCrc, right, readSection}
 use Rattle.rules.specs.Growth.{Piece, Parts, shape, Sized, Shaped, encoded, area, bytesOf, FullerPieces, GrownRevision, GrownClosing, GrownParts, Grown, empty, stays, added, revised}
 use Rattle.rules.specs.declared.VcmHead.{VcmHead}
 use Rattle.rules.specs.declared.DcmHead.{DcmHead}
 use Rattle.rules.specs.declared.Table.{Table}
 use Rattle.rules.specs.declared.Table.the-variants.{Cds, Mms, Vcm, Dcm}
-use Rattle.rules.proofs.Taken.{unless-got, then-got, giving-got, given-got}
+use Rattle.rules.proofs.Taken.{unless-got, giving-got, given-got}
 use Rattle.rules.proofs.Places.{from-length}
-use Rattle.rules.proofs.Right.{Made, made, fitting-long}
+use Rattle.rules.proofs.Right.{Made, made, fitting-long, Whole, whole-got, whole-so}
 use Rattle.rules.proofs.Encoded.{closing-encoded, records-grown}
 
 -- the same, with another closing list
@@ -202,15 +202,6 @@ bodies-alike (revised {ds} {es} {d} {e} r g) = rw (r .was, r .is) (one (revised-
 
 -- ---- the content
 
--- what `Made` leaves out: the map number and the revision itself
-pub content-got : (bs : List ℕ) (c : Content) (rest : List ℕ) → content bs ≡ got c rest → (mapOf bs ≡ c .map) × (revision (bodies revisionTag (c .closing)) ≡ got (c .revision) rest)
-unfolding content contentOf
-content-got bs c rest e =
-    let x = then-got _ _ _ _ (then-got _ _ _ _ e .more) in
-    let d = then-got _ _ _ _ (x .more) in
-    let r = giving-got _ _ _ _ (d .more) in
-    subst (λ (k : Content). (mapOf bs ≡ k .map) × (revision (bodies revisionTag (k .closing)) ≡ got (k .revision) rest)) (sym (r .2)) (refl, r .1)
-
 module _ (c : Content) (p q : Parts) (s : Shaped (c .table) p) (s′ : Shaped (c .table) q) (g : GrownParts p q) (rest : List ℕ) (e : content (bytesOf (c .table) p) ≡ got c rest) where
   parted : Made (bytesOf (c .table) p) c
   parted = made (bytesOf (c .table) p) c rest e
@@ -221,43 +212,14 @@ module _ (c : Content) (p q : Parts) (s : Shaped (c .table) p) (s′ : Shaped (c
   closing-before : c .closing ≡ p .closing
   closing-before = let k : got (c .closing) (parted .end) ≡ got (p .closing) [] = sym (parted .closed) ∙ ap closing (built .0) ∙ closing-encoded (p .closing) in cc
 
-  content-grown : content (bytesOf (c .table) q) ≡ got (withClosing c (q .closing)) rest
+  content-grown : content (bytesOf (c .table) q) ≡ got (withClosing c (q .closing)) (parted .done)
   unfolding content contentOf andThen giving
   content-grown =
       let h = parts-header (c .table) p q s g in
-      let k = content-got (bytesOf (c .table) p) c rest e in
-      let r : revision (bodies revisionTag (q .closing)) ≡ got (c .revision) rest = revision-alike (bodies-alike (g .closing)) ∙ ap (λ (ds : List Descriptor). revision (bodies revisionTag ds)) (sym closing-before) ∙ k .1 in
-      rw (header-same _ _ h (c .table) _ (parted .headed), built .1, closing-encoded (q .closing), r, map-same _ _ h ∙ k .0)
+      let r : revision (bodies revisionTag (q .closing)) ≡ got (c .revision) (parted .done) = revision-alike (bodies-alike (g .closing)) ∙ ap (λ (ds : List Descriptor). revision (bodies revisionTag ds)) (sym closing-before) ∙ parted .revises in
+      rw (header-same _ _ h (c .table) _ (parted .headed), built .1, closing-encoded (q .closing), r, map-same _ _ h ∙ parted .map)
 
 -- ---- the whole section
-
--- a section reads right where it passes the checks 3 to 6 and has content
-pub record Checked (s : List ℕ) (c : Content) : Type 0 where
-  pub three : fitting s ≡ true
-  pub four : (eqb (byte 0 s) 0xC2 || eqb (byte 0 s) 0xC4) ≡ true
-  pub five : eqb (crcOf s) 0 ≡ true
-  pub six : eqb (byte 3 s % 32) 0 ≡ true
-  pub rest : List ℕ
-  pub is : content (withoutCrc s) ≡ got c rest
-
-read-got : (g : Got Content) (c : Content) → read g ≡ right c → (rest : List ℕ) × (g ≡ got c rest)
-unfolding read
-read-got (refused n) c e = let z : _≡_ {A = ℕ} 0 1 = cc in absurd (omega arith)
-read-got (got d rest) c e = let k : d ≡ c = cc in (rest, rw k)
-
-pub checked : (s : List ℕ) (c : Content) → readSection s ≡ right c → Checked s c
-unfolding readSection whole
-checked s c e =
-    let g = read-got _ c e in
-    let three = unless-got _ _ _ _ _ (g .1) in
-    let four = unless-got _ _ _ _ _ (three .1) in
-    let five = unless-got _ _ _ _ _ (four .1) in
-    let six = unless-got _ _ _ _ _ (five .1) in
-    record { three = three .0; four = four .0; five = five .0; six = six .0; rest = g .0; is = six .1 }
-
-reads-whole : (s : List ℕ) (c : Content) → Checked s c → readSection s ≡ right c
-unfolding readSection whole read unless
-reads-whole s c k = rw (k .three, k .four, k .five, k .six, k .is)
 
 -- the bytes that the checks 4 and 6 look at stand before the CRC
 first-bytes : (s : List ℕ) (j : ℕ) → 8 ≤ length s → j < 4 → byte j (withoutCrc s) ≡ byte j s
@@ -265,8 +227,8 @@ unfolding withoutCrc byte
 first-bytes s j long h = getD-take (length s - 4) s j 0 (omega (arith, long, h))
 
 module _ (s g : List ℕ) (w : Grown s g) where
-  read-before : Checked s (w .content)
-  read-before = checked s (w .content) (w .reads)
+  read-before : Whole s (w .content)
+  read-before = whole-got s (w .content) (w .reads)
 
   apart : content (bytesOf (w .content .table) (w .before)) ≡ got (w .content) (read-before .rest)
   apart = ap content (sym (w .was)) ∙ read-before .is
@@ -283,11 +245,11 @@ module _ (s g : List ℕ) (w : Grown s g) where
       let h = parts-header (w .content .table) (w .before) (w .after) (w .shaped) (w .grows) in
       let zero : byte 0 g ≡ byte 0 s = byte-same 0 (omega arith) (h .first) in
       let three : byte 3 g ≡ byte 3 s = byte-same 3 (omega arith) (h .last 0 (omega arith)) in
-      reads-whole g (withClosing (w .content) (w .after .closing)) (record {
+      whole-so g (withClosing (w .content) (w .after .closing)) (record {
         three = w .fits;
         four = rw zero (read-before .four);
         five = eq-eqb (crcOf g) 0 (w .crc);
         six = rw three (read-before .six);
-        rest = read-before .rest;
+        rest = _;
         is = ap content (w .is) ∙ content-grown (w .content) (w .before) (w .after) (w .shaped) (w .reshaped) (w .grows) _ apart;
       })

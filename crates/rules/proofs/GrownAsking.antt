@@ -8,17 +8,17 @@ use mathlib.Core.Bool.{Bool, true, false, cond}
 use mathlib.Core.List.{List, [], _∷_}
 use lib.ListN.{length, take, drop}
 use lib.Dec.{eqb}
-use borrow.Author.Tests.{leb-true, ne-eqb}
-use Rattle.rules.specs.Bytes.{got, byte}
+use borrow.Author.Tests.{ne-eqb}
+use Rattle.rules.specs.Bytes.{byte}
 use Rattle.rules.specs.Descriptors.{Descriptor, bodies}
-use Rattle.rules.specs.Section.{revisionTag, revision, Content, right, readSection, firstOf, askedOf, ask, partOf, withoutCrc}
+use Rattle.rules.specs.Section.{revisionTag, revision, Content, right, readSection, firstOf, askedOf, ask, partOf}
 use Rattle.rules.specs.Growth.{GrownClosing, empty, stays, added, revised, Grown}
 use Rattle.rules.specs.declared.Revision.{Revision}
 use Rattle.rules.specs.declared.Asked.{Asked}
 use Rattle.rules.specs.declared.Asked.the-variants as Asked
-use Rattle.rules.proofs.Taken.{unless-got}
+use Rattle.rules.proofs.Right.{ReadFrom, read-from, reads-right}
 use Rattle.rules.proofs.Asking.{asked-none, none-asked, asked-body}
-use Rattle.rules.proofs.Grown.{withClosing, content-got, checked, grown-closing, grown-reads}
+use Rattle.rules.proofs.Grown.{withClosing, grown-closing, grown-reads}
 
 -- what the question tells: the refusal, that there is none, or the body
 pub data Told : Type 0 where
@@ -92,25 +92,9 @@ pub record SameRevision (x y : List ℕ) : Type 0 where
   pub number : byte 1 y ≡ byte 1 x
   pub last : byte 2 y ≡ byte 2 x
 
--- the body that a revision is read from
-record ReadFrom (r : Revision) (bs : List (List ℕ)) : Type 0 where
-  x : List ℕ
-  one : bs ≡ x ∷ []
-  long : 3 ≤ length x
-  is : r ≡ record { version = byte 0 x % 32; number = byte 1 x; last = byte 2 x }
-
-read-from : (bs : List (List ℕ)) (r : Revision) (rest : List ℕ) → revision bs ≡ got r rest → ReadFrom r bs
-unfolding revision
-read-from [] r rest e = let z : _≡_ {A = ℕ} 0 1 = cc in absurd (omega arith)
-read-from (b ∷ []) r rest e =
-    let long = unless-got _ _ _ _ _ e in
-    let k = unless-got _ _ _ _ _ (long .1) .1 in
-    record { x = b; one = refl; long = leb-true 3 (length b) (long .0); is = cc }
-read-from (b ∷ second ∷ more) r rest e = let z : _≡_ {A = ℕ} 0 1 = cc in absurd (omega arith)
-
 -- a section that reads right says its revision in the body that is told
 revision-from : (s : List ℕ) (c : Content) → readSection s ≡ right c → ReadFrom (c .revision) (bodies revisionTag (c .closing))
-revision-from s c e = let k = checked s c e in read-from _ _ _ (content-got (withoutCrc s) c (k .rest) (k .is) .1)
+revision-from s c e = read-from _ _ _ (reads-right s c e .made .revises)
 
 pub revision-told : (s g : List ℕ) (w : Grown s g) → (x : List ℕ) × (y : List ℕ) × (told s (ask revisionTag s) ≡ body x) × (told g (ask revisionTag g) ≡ body y) × SameRevision x y
 unfolding toldBy
@@ -118,8 +102,8 @@ revision-told s g w =
     let a = revision-from s (w .content) (w .reads) in
     let b = revision-from g (withClosing (w .content) (w .after .closing)) (grown-reads s g w) in
     let same = sym (b .is) ∙ a .is in (
-      a .x,
-      b .x,
+      a .body,
+      b .body,
       told-first revisionTag s (w .content) (w .reads) ∙ ap toldBy (a .one),
       told-first revisionTag g (withClosing (w .content) (w .after .closing)) (grown-reads s g w) ∙ ap toldBy (b .one),
       record { long = a .long; longer = b .long; version = ap (λ (r : Revision). r .version) same; number = ap (λ (r : Revision). r .number) same; last = ap (λ (r : Revision). r .last) same },

@@ -6,9 +6,9 @@ use native.Mathlib.Omega.{arith}
 use mathlib.Core.Path.{_≡_, refl}
 use mathlib.Core.List.{List, [], _∷_}
 use Rattle.rules.specs.Descriptors.{Descriptor}
-use Rattle.rules.specs.Section.{modes, channels, ranges, Content, check}
+use Rattle.rules.specs.Section.{modes, channels, ranges, Content}
 use Rattle.rules.specs.Holding.{answers}
-use Rattle.rules.specs.Growth.{FullerList, GrownClosing, empty, stays, added, revised, Piece, Parts, end, next, Grown, GrownRun}
+use Rattle.rules.specs.Growth.{FullerList, empty, stays, added, revised, Piece, end, next, Grown, GrownRun}
 use Rattle.rules.specs.Growth as Growth
 use Rattle.rules.specs.Lineup.{freshBox}
 use Rattle.rules.specs.declared.Table.the-variants.{Mms, Vcm, Dcm}

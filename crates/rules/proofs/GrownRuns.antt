@@ -3,25 +3,21 @@
 use Prim.Native.Nat.{ℕ, zero, suc, _+_, _-_, _<_}
 use native.Mathlib.Omega.{arith}
 use mathlib.Core.Path.{_≡_, refl, sym, ap, subst, _∙_}
-use mathlib.Core.Logic.{_⊎_, inl, inr}
 use mathlib.Core.Bool.{Bool, true, false, cond, _&&_}
-use mathlib.Core.List.{List, [], _∷_, _++_, flatten}
+use mathlib.Core.List.{List, []}
 use lib.ListN.{length}
 use lib.Dec.{leb, eqb}
 use borrow.Author.Tests.{eqb-true, eqb-false}
 use Rattle.rules.specs.Section.{Structure, Content, Reading, wrong, right, readSection}
 use Rattle.rules.specs.Holding.{limitOf, indexOf, placeOf, sectionAt, storeSize, holdingOf, liveAt, gatheredAt, wellFormed, otherMap, offeredAs, offered, takesIn, Box, answerTo, boxAfter, run, answers}
-use Rattle.rules.specs.Tuning.{tableLive, allLive, liveCount, liveReading, isSection, readsAs, every, placeReads, tableReads, allRead, carriersIn, modesIn, channelsIn, rangesIn, recordsIn, liveSection, liveRecords, Plant, plant, needs, lookUp, tune}
-use Rattle.rules.specs.Lineup.{refusals, channelLine, channelLines, heading, linesOf, printed, printedOf}
+use Rattle.rules.specs.Tuning.{allLive, liveCount, liveReading, readsAs, every, placeReads, tableReads, allRead, carriersIn, modesIn, channelsIn, rangesIn, recordsIn, liveSection, liveRecords, plant, needs, lookUp, tune}
+use Rattle.rules.specs.Lineup.{channelLines, linesOf, printed, printedOf}
 use Rattle.rules.specs.Growth.{Grown, GrownRun, end, same, grown}
 use Rattle.rules.specs.declared.Table.{Table}
 use Rattle.rules.specs.declared.Table.the-variants.{Cds, Mms, Vcm, Dcm}
 use Rattle.rules.specs.declared.State.{State}
-use Rattle.rules.specs.declared.Answer.{Answer}
 use Rattle.rules.specs.declared.Offered.{Offered}
-use Rattle.rules.specs.declared.Revision.{Revision}
 use Rattle.rules.specs.declared.Tuned.{Tuned}
-use Rattle.rules.proofs.Taken.{both-left, both-right}
 use Rattle.rules.proofs.Right.{one-right}
 use Rattle.rules.proofs.Steps.{formed}
 use Rattle.rules.proofs.Store.{same-index, same-section}

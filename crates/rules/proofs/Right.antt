@@ -1,15 +1,16 @@
 -- What a section that reads right is made of, and where its closing list stands.
 use Prim.Native.Nat.{ℕ, _+_, _-_, _%_, _≤_}
 use native.Mathlib.Omega.{arith}
-use mathlib.Core.Path.{_≡_, sym, ap, subst, _∙_}
-use mathlib.Core.Bool.{true, _&&_}
+use mathlib.Core.Path.{_≡_, refl, sym, ap, subst, _∙_}
+use mathlib.Core.Bool.{true, _&&_, _||_}
 use mathlib.Core.List.{List, [], _∷_}
 use lib.ListN.{length}
 use lib.Dec.{leb, eqb}
 use borrow.Author.Tests.{leb-true, eqb-true}
-use Rattle.rules.specs.Bytes.{Got, refused, got, byte, from}
-use Rattle.rules.specs.Descriptors.{closing}
-use Rattle.rules.specs.Section.{lengthOf, header, structure, revision, Content, contentOf, content, fitting, withoutCrc, whole, wrong, right, read, readSection, closingAt}
+use Rattle.rules.specs.Bytes.{Got, refused, got, unless, byte, from}
+use Rattle.rules.specs.Crc.{crcOf}
+use Rattle.rules.specs.Descriptors.{closing, bodies}
+use Rattle.rules.specs.Section.{lengthOf, header, mapOf, structure, revisionTag, revision, Content, contentOf, content, fitting, withoutCrc, whole, wrong, right, read, readSection, closingAt}
 use Rattle.rules.specs.declared.Revision.{Revision}
 use Rattle.rules.proofs.Taken.{both-left, both-right, unless-got, then-got, giving-got}
 use Rattle.rules.proofs.Closing.{closing-size}
@@ -23,22 +24,33 @@ pub record Made (bs : List ℕ) (c : Content) : Type 0 where
   pub built : structure (c .table) bs ≡ got (c .structure) tail
   pub end : List ℕ
   pub closed : closing tail ≡ got (c .closing) end
+  pub map : mapOf bs ≡ c .map
+  pub done : List ℕ
+  pub revises : revision (bodies revisionTag (c .closing)) ≡ got (c .revision) done
   pub version : c .revision .version ≤ 31
   pub number : c .revision .number ≤ c .revision .last
 
--- a version has five bits, and no number is above the last one
-revised : (bs : List (List ℕ)) (r : Revision) (rest : List ℕ) → revision bs ≡ got r rest → (r .version ≤ 31) × (r .number ≤ r .last)
+-- the body that a revision is read from
+pub record ReadFrom (r : Revision) (bs : List (List ℕ)) : Type 0 where
+  pub body : List ℕ
+  pub one : bs ≡ body ∷ []
+  pub long : 3 ≤ length body
+  pub low : byte 1 body ≤ byte 2 body
+  pub is : r ≡ record { version = byte 0 body % 32; number = byte 1 body; last = byte 2 body }
+
+pub read-from : (bs : List (List ℕ)) (r : Revision) (rest : List ℕ) → revision bs ≡ got r rest → ReadFrom r bs
 unfolding revision
-revised [] r rest e = let z : _≡_ {A = ℕ} 0 1 = cc in absurd (omega arith)
-revised (b ∷ []) r rest e =
+read-from [] r rest e = let z : _≡_ {A = ℕ} 0 1 = cc in absurd (omega arith)
+read-from (b ∷ []) r rest e =
     let long = unless-got _ _ _ _ _ e in
     let number = unless-got _ _ _ _ _ (long .1) in
-    let is : r ≡ record { version = byte 0 b % 32; number = byte 1 b; last = byte 2 b } = got-value (number .1) in
-    rw is (omega arith, leb-true (byte 1 b) (byte 2 b) (number .0))
-  where
-    got-value : {A : Type 0} {a c : A} {l m : List ℕ} → got a l ≡ got c m → c ≡ a
-    got-value e = cc
-revised (b ∷ second ∷ more) r rest e = let z : _≡_ {A = ℕ} 0 1 = cc in absurd (omega arith)
+    let k = number .1 in
+    record { body = b; one = refl; long = leb-true 3 (length b) (long .0); low = leb-true (byte 1 b) (byte 2 b) (number .0); is = cc }
+read-from (b ∷ second ∷ more) r rest e = let z : _≡_ {A = ℕ} 0 1 = cc in absurd (omega arith)
+
+-- a version has five bits, and no number is above the last one
+revised : {bs : List (List ℕ)} {r : Revision} → ReadFrom r bs → (r .version ≤ 31) × (r .number ≤ r .last)
+revised f = rw (f .is) (omega arith, f .low)
 
 pub made : (bs : List ℕ) (c : Content) (rest : List ℕ) → content bs ≡ got c rest → Made bs c
 unfolding content contentOf
@@ -47,9 +59,10 @@ made bs c rest q =
     let x = then-got _ _ _ _ (h .more) in
     let d = then-got _ _ _ _ (x .more) in
     let r = giving-got _ _ _ _ (d .more) in
-    let v = revised _ _ _ (r .1) in
+    let f = read-from _ _ _ (r .1) in
+    let v = revised f in
     subst (λ (k : Content). Made bs k) (sym (r .2))
-    (record { behind = h .behind; headed = h .one; tail = x .behind; built = x .one; end = d .behind; closed = d .one; version = v .0; number = v .1 })
+    (record { behind = h .behind; headed = h .one; tail = x .behind; built = x .one; end = d .behind; closed = d .one; map = refl; done = rest; revises = r .1; version = v .0; number = v .1 })
 
 right-got : (g : Got Content) (c : Content) → read g ≡ right c → (rest : List ℕ) × (g ≡ got c rest)
 unfolding read
@@ -77,7 +90,30 @@ unfolding fitting
 fitting-short s f =
     omega (arith, leb-true (lengthOf s) 1021 (both-right (leb 8 (length s) && eqb (length s) (3 + lengthOf s)) _ f), fitting-whole s f)
 
--- a section that reads right
+-- a section reads right where it passes the checks 3 to 6 and has content
+pub record Whole (s : List ℕ) (c : Content) : Type 0 where
+  pub three : fitting s ≡ true
+  pub four : (eqb (byte 0 s) 0xC2 || eqb (byte 0 s) 0xC4) ≡ true
+  pub five : eqb (crcOf s) 0 ≡ true
+  pub six : eqb (byte 3 s % 32) 0 ≡ true
+  pub rest : List ℕ
+  pub is : content (withoutCrc s) ≡ got c rest
+
+pub whole-got : (s : List ℕ) (c : Content) → readSection s ≡ right c → Whole s c
+unfolding readSection whole
+whole-got s c e =
+    let g = right-got _ c e in
+    let three = unless-got _ _ _ _ _ (g .1) in
+    let four = unless-got _ _ _ _ _ (three .1) in
+    let five = unless-got _ _ _ _ _ (four .1) in
+    let six = unless-got _ _ _ _ _ (five .1) in
+    record { three = three .0; four = four .0; five = five .0; six = six .0; rest = g .0; is = six .1 }
+
+pub whole-so : (s : List ℕ) (c : Content) → Whole s c → readSection s ≡ right c
+unfolding readSection whole read unless
+whole-so s c k = rw (k .three, k .four, k .five, k .six, k .is)
+
+-- what it is made of
 pub record Right (s : List ℕ) (c : Content) : Type 0 where
   pub long : 8 ≤ length s
   pub whole : length s ≡ 3 + lengthOf s
@@ -85,14 +121,9 @@ pub record Right (s : List ℕ) (c : Content) : Type 0 where
   pub made : Made (withoutCrc s) c
 
 pub reads-right : (s : List ℕ) (c : Content) → readSection s ≡ right c → Right s c
-unfolding readSection whole
 reads-right s c e =
-    let g = right-got _ c e in
-    let three = unless-got _ _ _ _ _ (g .1) in
-    let four = unless-got _ _ _ _ _ (three .1) in
-    let five = unless-got _ _ _ _ _ (four .1) in
-    let six = unless-got _ _ _ _ _ (five .1) in
-    record { long = fitting-long s (three .0); whole = fitting-whole s (three .0); short = fitting-short s (three .0); made = made (withoutCrc s) c (g .0) (six .1) }
+    let k = whole-got s c e in
+    record { long = fitting-long s (k .three); whole = fitting-whole s (k .three); short = fitting-short s (k .three); made = made (withoutCrc s) c (k .rest) (k .is) }
 
 -- its closing list stands where the head says
 pub closing-place : (bs : List ℕ) (c : Content) → Made bs c → (end : List ℕ) × (closing (from bs (closingAt bs (c .closing))) ≡ got (c .closing) end)
