@@ -1,16 +1,16 @@
--- Document 01, "Examples": C1 to C13 and the two printed line-ups, as one collected fact about the rules.
--- Each part is computed from the definitions, on whole sections with their CRC.
+-- Document 01, "Examples": C1 to C13, as one collected fact about the rules. Each part is computed from the definitions, on
+-- whole sections with their CRC. (The printed line-ups: crates/examples.)
 use Prim.Native.Nat.{ℕ}
 use mathlib.Core.Path.{_≡_, refl}
 use mathlib.Core.Bool.{true, false}
-use mathlib.Core.List.{List, [], _∷_, _++_, map, flatten}
+use mathlib.Core.List.{List, [], _∷_, map}
 use Rattle.rules.specs.Descriptors.{Descriptor}
 use Rattle.rules.specs.Layout.{Numbered}
 use Rattle.rules.specs.Tables.{carriersOf, carrierKhz}
 use Rattle.rules.specs.Section.{carriers, modes, channels, ranges, Content, right, readSection, check}
-use Rattle.rules.specs.Holding.{run, answers}
-use Rattle.rules.specs.Tuning.{defined, tune}
-use Rattle.rules.specs.Lineup.{text, freshBox, lineup}
+use Rattle.rules.specs.Holding.{answers}
+use Rattle.rules.specs.Tuning.{carriersIn, modesIn, channelsIn, rangesIn, recordsIn, Plant, defined, lookUp}
+use Rattle.rules.specs.Lineup.{freshBox}
 use Rattle.rules.specs.declared.Table.the-variants.{Cds, Mms, Vcm, Dcm}
 use Rattle.rules.specs.declared.Mode.{Mode}
 use Rattle.rules.specs.declared.Signal.the-variants.{Digital, Analogue}
@@ -22,13 +22,15 @@ use Rattle.rules.specs.declared.Tuned.the-variants as Tuned
 use Rattle.rules.proofs.Hex.{hex}
 use Rattle.rules.proofs.Computed.{computed}
 
--- what a channel is tuned to by a box of map 0 that was given these sections
-abbrev pub tuned : (sections : List (List ℕ)) → (number : ℕ) → Tuned
-tuned sections number = let b = run (freshBox 0) sections in tune (b .state) (b .store) number
-
--- several channels of one box
-abbrev pub tunedAll : (sections : List (List ℕ)) → (numbers : List ℕ) → List Tuned
-tunedAll sections numbers = let b = run (freshBox 0) sections in map (tune (b .state) (b .store)) numbers
+-- the records that a section of each table says
+abbrev pub said : (cds mms vcm dcm : List ℕ) → Plant
+said cds mms vcm dcm =
+    record {
+      carriers = recordsIn carriersIn (readSection cds);
+      modes = recordsIn modesIn (readSection mms);
+      channels = recordsIn channelsIn (readSection vcm);
+      ranges = recordsIn rangesIn (readSection dcm);
+    }
 
 -- what a section with the record of C1 reads as
 abbrev pub c1Content : List Descriptor → Revision → Content
@@ -41,23 +43,14 @@ c1Content closing revision =
       revision = revision;
     }
 
--- C1, C12 at mode index 1, C7 and C9, first index 1
-abbrev pub examplePlant : List (List ℕ)
-examplePlant =
-    hex "C2 30 13 00 01 01 01 02 80 30 81 C8 00 93 03 E5 00 00 74 9E FB E2"
-    ∷ hex "C2 30 14 00 01 01 02 2F 08 00 4D 29 AD 00 93 03 E5 00 00 CE 5B B1 EE"
-    ∷ hex "C4 30 13 00 01 00 00 00 02 03 83 05 81 93 03 E5 00 00 90 74 69 2E"
-    ∷ hex "C4 30 1D 00 00 00 00 00 00 00 00 00 00 01 00 03 00 12 34 02 00 03 01 93 03 E5 00 00 43 E6 31 47"
-    ∷ []
-
 -- the records of C2, C3 and C4 as carriers 2 to 5 of one section, for channels 2 to 5
-abbrev pub bordersPlant : List (List ℕ)
-bordersPlant =
-    hex "C2 30 25 00 02 04 01 01 00 00 15 18 00 01 00 00 15 17 00 01 00 00 9F 50 00 01 00 00 9F 51 00 93 03 E5 00 00 4A F4 C4 0A"
-    ∷ hex "C2 30 14 00 01 01 02 2F 08 00 4D 29 AD 00 93 03 E5 00 00 CE 5B B1 EE"
-    ∷ hex "C4 30 11 00 01 00 00 00 02 01 84 93 03 E5 00 00 0C B9 F5 D9"
-    ∷ hex "C4 30 38 00 00 00 00 00 00 00 00 00 00 04 00 02 00 12 34 02 00 03 01 00 03 00 12 34 03 00 03 01 00 04 00 12 34 04 00 03 01 00 05 00 12 34 05 00 03 01 93 03 E5 00 00 A9 F1 EE 35"
-    ∷ []
+abbrev borders : Plant
+borders =
+    said
+    (hex "C2 30 25 00 02 04 01 01 00 00 15 18 00 01 00 00 15 17 00 01 00 00 9F 50 00 01 00 00 9F 51 00 93 03 E5 00 00 4A F4 C4 0A")
+    (hex "C2 30 14 00 01 01 02 2F 08 00 4D 29 AD 00 93 03 E5 00 00 CE 5B B1 EE")
+    (hex "C4 30 38 00 00 00 00 00 00 00 00 00 00 04 00 02 00 12 34 02 00 03 01 00 03 00 12 34 03 00 03 01 00 04 00 12 34 04 00 03 01 00 05 00 12 34 05 00 03 01 93 03 E5 00 00 A9 F1 EE 35")
+    (hex "C4 30 11 00 01 00 00 00 02 01 84 93 03 E5 00 00 0C B9 F5 D9")
 
 -- the ranges of C7
 abbrev pub c7Ranges : List (Numbered Range)
@@ -80,18 +73,18 @@ pub record Examples : Type 0 where
   -- C2 `01 00 00 15 18`: 54,000
   pub c2 :
       (carrierKhz (carriersOf (hex "01 00 00 15 18")) 0 ≡ 54000)
-      × (tuned bordersPlant 2 ≡ Tuned.Digital 0 0 54000 3 c12Mode)
+      × (lookUp borders 2 ≡ Tuned.Digital 0 0 54000 3 c12Mode)
   -- C3 `01 00 00 15 17`: 53,990, reads, tuning gives 20
   pub c3 :
       (carrierKhz (carriersOf (hex "01 00 00 15 17")) 0 ≡ 53990)
       × (check (hex "C2 30 25 00 02 04 01 01 00 00 15 18 00 01 00 00 15 17 00 01 00 00 9F 50 00 01 00 00 9F 51 00 93 03 E5 00 00 4A F4 C4 0A") ≡ 0)
-      × (tuned bordersPlant 3 ≡ Tuned.Refused 20)
+      × (lookUp borders 3 ≡ Tuned.Refused 20)
   -- C4 `01 00 00 9F 50`: 1,002,000; `..51` in the last byte: 1,002,125, gives 20
   pub c4 :
       (carrierKhz (carriersOf (hex "01 00 00 9F 50")) 0 ≡ 1002000)
-      × (tuned bordersPlant 4 ≡ Tuned.Digital 0 0 1002000 3 c12Mode)
+      × (lookUp borders 4 ≡ Tuned.Digital 0 0 1002000 3 c12Mode)
       × (carrierKhz (carriersOf (hex "01 00 00 9F 51")) 0 ≡ 1002125)
-      × (tuned bordersPlant 5 ≡ Tuned.Refused 20)
+      × (lookUp borders 5 ≡ Tuned.Refused 20)
   -- C5 `00 80 30 81 C8`: 10; `02 C0 30 81 C8`: 9
   pub c5 :
       (check (hex "C2 30 13 00 01 01 01 00 80 30 81 C8 00 93 03 E5 00 00 83 06 E9 89") ≡ 10)
@@ -142,36 +135,15 @@ pub record Examples : Type 0 where
       ∷ hex "C2 30 13 00 01 01 01 02 80 30 81 C8 00 93 03 E7 00 04 64 2B D4 30"
       ∷ [])
       ≡ Stored 1 ∷ Repeat ∷ Live 6 ∷ Stored 1 ∷ Repeat ∷ Live 5 ∷ Refused 13 ∷ Refused 12 ∷ []
-  -- "Input 00 00 prints, whole"
-  pub empty : lineup (hex "00 00") ≡ text "lineup=1\nmap=0\nsections=0\nrefused=0\ncds=none\nmms=none\nvcm=none\ndcm=none\nchannels=0\n"
-  -- "The digital line comes from C1, C12 at mode index 1, C7 and C9, all live, first index 1": the whole output
-  pub digital :
-      lineup (hex "00 00" ++ flatten examplePlant)
-      ≡ text "lineup=1\nmap=0\nsections=4\nrefused=0\ncds=5\nmms=5\nvcm=5\ndcm=5\nchannels=1\n"
-      ++ text "channel=3 kind=digital hidden=0 path=0 khz=63000 program=3 system=2 inner=15 split=0 format=8 symbols=5056941\n"
-
--- the four tunings of C2, C3 and C4, computed on one box, and each of them
-borders :
-    tunedAll bordersPlant (2 ∷ 3 ∷ 4 ∷ 5 ∷ [])
-    ≡ Tuned.Digital 0 0 54000 3 c12Mode ∷ Tuned.Refused 20 ∷ Tuned.Digital 0 0 1002000 3 c12Mode ∷ Tuned.Refused 20 ∷ []
-unfolding computed
-borders = refl
-
-each :
-    (tuned bordersPlant 2 ≡ Tuned.Digital 0 0 54000 3 c12Mode)
-    × (tuned bordersPlant 3 ≡ Tuned.Refused 20)
-    × (tuned bordersPlant 4 ≡ Tuned.Digital 0 0 1002000 3 c12Mode)
-    × (tuned bordersPlant 5 ≡ Tuned.Refused 20)
-each = let e = borders in (cc, cc, cc, cc)
 
 pub examples : Examples
 unfolding computed
 examples =
     record {
       c1 = (refl, refl, refl);
-      c2 = (refl, each .0);
-      c3 = (refl, refl, each .1);
-      c4 = (refl, each .2, refl, each .3);
+      c2 = (refl, refl);
+      c3 = (refl, refl, refl);
+      c4 = (refl, refl, refl, refl);
       c5 = (refl, refl);
       c6 = (refl, refl, refl, refl);
       c7 = (refl, refl);
@@ -181,6 +153,4 @@ examples =
       c11 = (refl, refl, refl, refl);
       c12 = refl;
       c13 = refl;
-      empty = refl;
-      digital = refl;
     }

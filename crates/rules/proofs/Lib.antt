@@ -26,6 +26,5 @@ pub mod Grown
 pub mod Apart
 pub mod Again
 pub mod GrownAsking
-pub mod GrownExamples
 pub mod GrownRuns
 pub mod Determined

@@ -5,20 +5,20 @@ use Prim.Native.String.{String}
 use native.Mathlib.Omega.{arith}
 use mathlib.Core.Path.{_≡_, refl}
 use mathlib.Core.List.{List, [], _∷_}
 use Rattle.rules.specs.Descriptors.{Descriptor}
 use Rattle.rules.specs.Section.{modes, channels, ranges, Content}
-use Rattle.rules.specs.Holding.{answers}
 use Rattle.rules.specs.Growth.{FullerList, empty, stays, added, revised, Piece, end, next, Grown, GrownRun}
-use Rattle.rules.specs.Growth as Growth
-use Rattle.rules.specs.Lineup.{freshBox}
+use Rattle.rules.specs.Growth
+use Rattle.rules.specs.Lineup.{freshBox, printedOf}
 use Rattle.rules.specs.declared.Table.the-variants.{Mms, Vcm, Dcm}
 use Rattle.rules.specs.declared.Signal.the-variants.{Digital}
-use Rattle.rules.specs.declared.Answer.the-variants.{Live}
 use Rattle.rules.specs.declared.Tuned.the-variants as Tuned
 use Rattle.rules.proofs.Hex.{hex}
 use Rattle.rules.proofs.Computed.{computed}
 use Rattle.rules.proofs.Taken.{differ}
-use Rattle.rules.proofs.Examples.{tuned, c1Content, examplePlant, c7Ranges, c12Mode}
+use Rattle.rules.proofs.GrownRuns.{grown-printed}
+use Rattle.rules.proofs.Examples.{c1Content, c7Ranges, c12Mode}
+use Rattle.examples.proofs.Printed.{examplePlant}
 
 -- a descriptor, and a record with its list
 abbrev d : (tag : ℕ) → (body : String) → Descriptor
@@ -160,11 +160,6 @@ grownPlant = carriersGrown ∷ modesGrown ∷ rangesGrown ∷ channelsGrown ∷ 
 pub plant-grows : GrownRun examplePlant grownPlant
 plant-grows = Growth.grown carriers-grow (Growth.grown modes-grow (Growth.grown ranges-grow (Growth.grown channels-grow Growth.end)))
 
--- what it answers and tunes, computed once more on the grown sections
-pub grown-answers : answers (freshBox 0) grownPlant ≡ Live 5 ∷ Live 5 ∷ Live 5 ∷ Live 5 ∷ []
-unfolding computed
-grown-answers = refl
-
-pub grown-tuned : tuned grownPlant 3 ≡ Tuned.Digital 0 0 63000 3 c12Mode
-unfolding computed
-grown-tuned = refl
+-- so that the grown plant prints the paper's digital line too, without being computed again
+pub grown-printed-so : printedOf (freshBox 0) grownPlant ≡ printedOf (freshBox 0) examplePlant
+grown-printed-so = grown-printed (freshBox 0) plant-grows
