@@ -22,3 +22,4 @@ pub mod LivePlaces
 pub mod Answered
 pub mod Pieces
 pub mod Determined
+pub mod Once
