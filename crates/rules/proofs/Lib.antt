@@ -28,3 +28,4 @@ pub mod Again
 pub mod GrownAsking
 pub mod GrownRuns
 pub mod Determined
+pub mod Once

@@ -1,2 +1,3 @@
 pub mod Written
 pub mod Lines
+pub mod Determined
