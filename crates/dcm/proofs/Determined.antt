@@ -7,8 +7,7 @@ use ghost.Atoms.{Atoms}
 use prog.Memory.{Memory}
 use prog.Routine.{Routine}
 use prog.Wp.{Heap}
-use Rattle.rules.proofs.Determined.{Determined, determined-by}
-use Rattle.rules.proofs.Once.{determined-once}
+use Rattle.rules.proofs.Determined.{Determined, determined-by, determined-once}
 use Rattle.fields.proofs.Laws.{stands-once}
 use Rattle.dcm.proofs.head_zeros
 use Rattle.dcm.proofs.head_of

@@ -9,8 +9,7 @@ use ghost.Atoms.{Atoms}
 use prog.Memory.{Memory}
 use prog.Routine.{Routine}
 use prog.Wp.{Heap}
-use Rattle.rules.proofs.Determined.{Determined, determined-by}
-use Rattle.rules.proofs.Once.{determined-once, both-say}
+use Rattle.rules.proofs.Determined.{Determined, determined-by, determined-once, both-say}
 use Rattle.fields.proofs.Laws.{stands-once}
 use Rattle.fields.proofs.byte
 use Rattle.fields.proofs.room

@@ -11,8 +11,7 @@ use ghost.Atoms.{Atoms}
 use prog.Memory.{Memory}
 use prog.Routine.{Routine}
 use prog.Wp.{Heap}
-use Rattle.rules.proofs.Determined.{Determined, withLent}
-use Rattle.rules.proofs.Once.{determined-once, both-say}
+use Rattle.rules.proofs.Determined.{Determined, withLent, determined-once, both-say}
 use Rattle.text.specs.Written.{Wrote}
 use Rattle.text.proofs.Determined.{same-end, same-bytes}
 use Rattle.printout.specs.declared.Lines.{Lines}

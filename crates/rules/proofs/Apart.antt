@@ -84,21 +84,27 @@ apart t bs x ds n e =
     let is = first-three bs n ∙ ap (λ (y : List ℕ). byte 0 bs ∷ byte 1 bs ∷ byte 2 bs ∷ y) (sym (take-append-drop (recordsAt t - 3) (from bs 3))) in
     subst (Apart t) (sym is) (behind-front t _ _ _ (take (recordsAt t - 3) (from bs 3)) _ x ds (long ∙ omega (arith, head-shape t (take (recordsAt t - 3) (from bs 3)))) (ap (structure t) (sym is) ∙ e))
 
+-- a section that reads right, in its parts: no byte before its CRC is left out
+pub in-parts : (s : List ℕ) (c : Content) → readSection s ≡ right c → (p : Parts) × Shaped (c .table) p × (withoutCrc s ≡ bytesOf (c .table) p)
+in-parts s c e =
+    let m = reads-right s c e .made in
+    let p = apart (c .table) (withoutCrc s) (c .structure) (c .closing) (header-facts _ _ _ (m .headed) .0) (m .built ∙ ap (got (c .structure)) (closing-split _ _ _ (m .closed))) in
+    (p .parts, p .shaped, p .is)
+
 pub grown-itself : (s : List ℕ) (c : Content) → readSection s ≡ right c → Grown s s
 grown-itself s c e =
     let k = whole-got s c e in
-    let m = reads-right s c e .made in
-    let p = apart (c .table) (withoutCrc s) (c .structure) (c .closing) (header-facts _ _ _ (m .headed) .0) (m .built ∙ ap (got (c .structure)) (closing-split _ _ _ (m .closed))) in
+    let p = in-parts s c e in
     record {
       content = c;
       reads = e;
-      before = p .parts;
-      after = p .parts;
-      was = p .is;
-      is = p .is;
-      shaped = p .shaped;
-      reshaped = p .shaped;
-      grows = record { number = refl; zeros = refl; front = refl; pieces = pieces-itself (p .parts .pieces); closing = closing-itself (p .parts .closing) };
+      before = p .0;
+      after = p .0;
+      was = p .2;
+      is = p .2;
+      shaped = p .1;
+      reshaped = p .1;
+      grows = record { number = refl; zeros = refl; front = refl; pieces = pieces-itself (p .0 .pieces); closing = closing-itself (p .0 .closing) };
       fits = k .three;
       crc = eqb-true (crcOf s) 0 (k .five);
     }

@@ -17,6 +17,8 @@ pub mod Faithful
 pub mod Asking
 pub mod Search
 pub mod Tunes
+pub mod Reach
+pub mod Numbers
 pub mod Lowest
 pub mod LivePlaces
 pub mod Answered
@@ -28,4 +30,6 @@ pub mod Again
 pub mod GrownAsking
 pub mod GrownRuns
 pub mod Determined
-pub mod Once
+pub mod Condition1
+pub mod Condition2
+pub mod Condition3

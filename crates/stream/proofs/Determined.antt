@@ -15,8 +15,7 @@ use prog.Wp.{Heap}
 use Rattle.rules.specs.Bytes.{from}
 use Rattle.rules.specs.Feeding.{Intake}
 use Rattle.rules.proofs.Places.{same-place}
-use Rattle.rules.proofs.Determined.{Determined, determined-by, withLent}
-use Rattle.rules.proofs.Once.{determined-once, both-say}
+use Rattle.rules.proofs.Determined.{Determined, determined-by, withLent, determined-once, both-say}
 use Rattle.stream.specs.declared.Tally.{Tally}
 use Rattle.stream.specs.declared.Fed.{Fed}
 use Rattle.stream.specs.declared.Absorbed.{Absorbed}

@@ -1,0 +1,74 @@
+-- The tender's second condition, sentence by sentence, about the rules; that the code is these rules is each function's contract.
+use Prim.Native.Nat.{ℕ, _≤_}
+use mathlib.Core.Path.{_≡_}
+use mathlib.Core.Bool.{true, false}
+use mathlib.Core.List.{List, _∷_}
+use Rattle.rules.specs.Section.{Structure, Content, right, readSection, withoutCrc}
+use Rattle.rules.specs.Holding.{holdingOf, Box, answerTo, boxAfter, run, fresh}
+use Rattle.rules.specs.Tuning.{allLive, allRead, liveRecords, tune}
+use Rattle.rules.specs.Growth.{Parts, Shaped, bytesOf}
+use Rattle.rules.specs.declared.Table.{Table}
+use Rattle.rules.specs.declared.State.{State}
+use Rattle.rules.specs.declared.Answer.the-variants.{Stored, Live}
+use Rattle.rules.specs.declared.Tuned.{Tuned}
+use Rattle.rules.proofs.Examples.{Examples, examples}
+use Rattle.rules.proofs.Steps.{goesLive, SameLive, HeldWith}
+use Rattle.rules.proofs.Offers.{NotOf, TakenIn, NowLive, NowHeld, went-live, completes, live-kept, live-changes, others-kept, now-held}
+use Rattle.rules.proofs.LiveRecords.{other-records, records-kept}
+use Rattle.rules.proofs.GoingLive.{Promised, Wanted, NoneOther, goes-live}
+use Rattle.rules.proofs.Faithful.{run-reads}
+use Rattle.rules.proofs.Answered.{Answered, answered, answered-only}
+use Rattle.rules.proofs.Apart.{in-parts}
+
+pub record Condition2 : Type 1 where
+  -- "A section is read as SCTE 65 lays it out, under the rules of document 01": the paper's own examples, C1 to C13; and of a section that
+  -- reads right every byte before the CRC belongs to a part that its table lays out: the header, the structure's head, the records with
+  -- their descriptors, the closing list
+  pub read-as-laid-out : Examples
+  pub no-byte-left : (section : List ℕ) (c : Content) → readSection section ≡ right c → (p : Parts) × Shaped (c .table) p × (withoutCrc section ≡ bytesOf (c .table) p)
+  -- "A version of a table goes live at the section that completes it": where the answer is *live* this section completed the version, and
+  -- where a section that is taken in completes its version the answer is *live*
+  pub live-completes : (b : Box) (section : List ℕ) (v : ℕ) → answerTo b section ≡ Live v → NowLive b section v
+  pub complete-lives : (b : Box) (section : List ℕ) (c : Content) → TakenIn b section c
+      → ((k : ℕ) → k ≤ c .revision .last → HeldWith (holdingOf (b .state) (c .table)) (c .revision) k) → answerTo b section ≡ Live (c .revision .version)
+  -- "and at no other moment": with any other answer what is live of every table stays, and with *live* it does not
+  pub no-other-moment : (b : Box) (section : List ℕ) → goesLive (answerTo b section) ≡ false → (t : Table) → SameLive (holdingOf (boxAfter b section .state) t) (holdingOf (b .state) t)
+  pub that-moment : (b : Box) (section : List ℕ) (v : ℕ) → answerTo b section ≡ Live v
+      → (t : Table) × (holdingOf (boxAfter b section .state) t .live ≡ holdingOf (b .state) t .live → ⊥)
+  -- document 01: *stored* says "how many sections are still missing", last + 1 less those held; and "Sections 0 to last of one version ..
+  -- offered in any order .. leave it live by the last of them"
+  pub missing : (b : Box) (section : List ℕ) (n : ℕ) → answerTo b section ≡ Stored n → NowHeld b section n
+  pub in-any-order : (b : Box) (t : Table) (v last n : ℕ) (x : List ℕ) (xs : List (List ℕ)) → Promised b t v last (x ∷ xs) → Wanted (b .state) t v last n x
+      → NoneOther (b .state) t v last xs → holdingOf (run b (x ∷ xs) .state) t .live ≡ record { present = 1; version = v; last = last }
+  -- "a section of one table leaves the other tables' live records as they were": the records that tuning searches, and all that is held;
+  -- and those of its own table, unless the answer is *live*
+  pub other-tables : {R : Type 0} (records : Structure → List R) (b : Box) (section : List ℕ) (t : Table) → NotOf t section
+      → liveRecords records (boxAfter b section .state) (boxAfter b section .store) t ≡ liveRecords records (b .state) (b .store) t
+  pub other-holdings : (b : Box) (section : List ℕ) (t : Table) → NotOf t section → holdingOf (boxAfter b section .state) t ≡ holdingOf (b .state) t
+  pub own-table : {R : Type 0} (records : Structure → List R) (b : Box) (section : List ℕ) (t : Table) → goesLive (answerTo b section) ≡ false
+      → liveRecords records (boxAfter b section .state) (boxAfter b section .store) t ≡ liveRecords records (b .state) (b .store) t
+  -- "a channel number gets the frequency, mode and programme that the live tables give it": `Answered` tells each answer in words, by the
+  -- first matching live records, and exactly one is allowed; of a fresh box, with any store, the live places always read
+  pub tuned-by-live : (s : State) (store : List ℕ) (number : ℕ) → Answered s store number (tune s store number)
+  pub and-nothing-else : (s : State) (store : List ℕ) (number : ℕ) (x : Tuned) → Answered s store number x → x ≡ tune s store number
+  pub live-reads : (map : ℕ) (store : List ℕ) (sections : List (List ℕ)) → allLive (run (record { state = fresh map; store = store }) sections .state) ≡ true
+      → allRead (run (record { state = fresh map; store = store }) sections .state) (run (record { state = fresh map; store = store }) sections .store) ≡ true
+
+pub condition2 : Condition2
+condition2 =
+    record {
+      read-as-laid-out = examples;
+      no-byte-left = in-parts;
+      live-completes = went-live;
+      complete-lives = completes;
+      no-other-moment = live-kept;
+      that-moment = live-changes;
+      missing = now-held;
+      in-any-order = goes-live;
+      other-tables = λ records b section t. other-records records b section t;
+      other-holdings = others-kept;
+      own-table = λ records b section t. records-kept records b section t;
+      tuned-by-live = answered;
+      and-nothing-else = answered-only;
+      live-reads = run-reads;
+    }

@@ -1,0 +1,291 @@
+-- Condition 1: "answers or refuses by a number from document 01": which numbers each question can give.
+use Prim.Native.Nat.{ℕ, zero, suc, _+_, _-_, _≤_}
+use native.Mathlib.Omega.{arith}
+use mathlib.Core.Path.{_≡_, refl, ap, subst, _∙_}
+use mathlib.Core.Logic.{_⊎_, inl, inr}
+use mathlib.Core.Bool.{Bool, true, false, cond, not}
+use mathlib.Core.List.{List, [], _∷_}
+use mathlib.Core.Option.{Option, none, some}
+use lib.ListN.{length}
+use lib.Count.{ones}
+use lib.Dec.{leb, ltb, eqb}
+use Rattle.rules.specs.Bytes.{Got, refused, got, unless, andThen, giving}
+use Rattle.rules.specs.Descriptors.{Descriptor, descriptor, passed, counted, filling, closing}
+use Rattle.rules.specs.Layout.{Layout, bare, entry, after, records, head}
+use Rattle.rules.specs.Tables.{cds, mms, vcmHead, vcm, dcmHead, dcm}
+use Rattle.rules.specs.Section.{given, headerWhole, header, structure, revision, Content, contentOf, content, whole, Reading, wrong, right, read, readSection, checkOf, check, firstOf, askedOf, ask}
+use Rattle.rules.specs.Holding.{limitOf, storeSize, holdingOf, wellFormed, allOf, otherLast, isRepeat, goneLive, gathering, liveOrStored, heldWith, stepOf, otherMap, stepped, offeredAs, offered, Box, answerTo}
+use Rattle.rules.specs.Tuning.{Plant, plant, found, hidden, tuneSignal, tuneKhz, tuneCarrier, tuneChannel, lookUp, tune}
+use Rattle.rules.specs.declared.Table.{Table}
+use Rattle.rules.specs.declared.Table.the-variants.{Cds, Mms, Vcm, Dcm}
+use Rattle.rules.specs.declared.Channel.{Channel}
+use Rattle.rules.specs.declared.Signal.{Signal}
+use Rattle.rules.specs.declared.Signal.the-variants as Signal
+use Rattle.rules.specs.declared.Holding.{Holding}
+use Rattle.rules.specs.declared.Revision.{Revision}
+use Rattle.rules.specs.declared.State.{State}
+use Rattle.rules.specs.declared.Stepped.{Stepped}
+use Rattle.rules.specs.declared.Offered.{Offered}
+use Rattle.rules.specs.declared.Answer.{Answer}
+use Rattle.rules.specs.declared.Answer.the-variants.{Refused, OtherMap, Repeat, Stored, Live}
+use Rattle.rules.specs.declared.Asked.{Asked}
+use Rattle.rules.specs.declared.Asked.the-variants as Asked
+use Rattle.rules.specs.declared.Tuned.{Tuned}
+use Rattle.rules.specs.declared.Tuned.the-variants as Tuned
+use Rattle.rules.proofs.Reach.{needs-so}
+
+-- ---- a section: 3 to 11
+
+abbrev pub OfSection : ℕ → Type 0
+OfSection n = (3 ≤ n) × (n ≤ 11)
+
+abbrev Reads : {A : Type 0} → Got A → Type 0
+Reads (refused n) = OfSection n
+Reads (got a rest) = Unit {0}
+
+module _ {A : Type 0} where
+  unless-reads : (t : Bool) (n : ℕ) (g : Got A) → OfSection n → Reads g → Reads (unless t n g)
+  unfolding unless
+  unless-reads true n g low h = h
+  unless-reads false n g low h = low
+
+  module _ {B : Type 0} where
+    then-reads : (g : Got A) (f : A → List ℕ → Got B) → Reads g → ((a : A) (rest : List ℕ) → Reads (f a rest)) → Reads (andThen g f)
+    unfolding andThen
+    then-reads (refused n) f h k = h
+    then-reads (got a rest) f h k = k a rest
+
+    giving-reads : (f : A → B) (g : Got A) → Reads g → Reads (giving f g)
+    unfolding giving
+    giving-reads f (refused n) h = h
+    giving-reads f (got a rest) h = tt
+
+    given-reads : (o : Option A) (n : ℕ) (f : A → Got B) → OfSection n → ((a : A) → Reads (f a)) → Reads (given o n f)
+    unfolding given
+    given-reads none n f low h = low
+    given-reads (some a) n f low h = h a
+
+abbrev seven : OfSection 7
+seven = (omega arith, omega arith)
+
+abbrev eight : OfSection 8
+eight = (omega arith, omega arith)
+
+abbrev nine : OfSection 9
+nine = (omega arith, omega arith)
+
+abbrev ten : OfSection 10
+ten = (omega arith, omega arith)
+
+abbrev eleven : OfSection 11
+eleven = (omega arith, omega arith)
+
+descriptor-reads : (bs : List ℕ) → Reads (descriptor bs)
+unfolding descriptor
+descriptor-reads bs = unless-reads _ 8 _ eight (unless-reads _ 8 _ eight tt)
+
+passed-reads : (n : ℕ) (bs : List ℕ) → Reads (passed n bs)
+unfolding passed
+passed-reads zero bs = tt
+passed-reads (suc n) bs = then-reads (descriptor bs) _ (descriptor-reads bs) (λ d rest. passed-reads n rest)
+
+counted-reads : (described : Bool) (bs : List ℕ) → Reads (counted described bs)
+unfolding counted
+counted-reads false bs = tt
+counted-reads true bs = unless-reads _ 8 _ eight (passed-reads _ _)
+
+filling-reads : (n : ℕ) (bs : List ℕ) → Reads (filling n bs)
+unfolding filling
+filling-reads zero bs = tt
+filling-reads (suc n) bs = go (eqb (length bs) 0) _ (then-reads (descriptor bs) _ (descriptor-reads bs) (λ d rest. giving-reads _ (filling n rest) (filling-reads n rest)))
+  where
+    go : (t : Bool) (g : Got (List Descriptor)) → Reads g → Reads (cond t (got [] bs) g)
+    go true g h = tt
+    go false g h = h
+
+module _ {R : Type 0} (l : Layout R) where
+  bare-reads : (index : ℕ) (bs : List ℕ) → Reads (bare l index bs)
+  unfolding bare
+  bare-reads index bs = unless-reads _ 8 _ eight (unless-reads _ 9 _ nine (unless-reads _ 10 _ ten tt))
+
+  entry-reads : (index : ℕ) (bs : List ℕ) → Reads (entry l index bs)
+  unfolding entry
+  entry-reads index bs = then-reads (bare l index bs) _ (bare-reads index bs) (λ r rest. giving-reads _ (counted (l .described) rest) (counted-reads (l .described) rest))
+
+  records-read : (n index : ℕ) (bs : List ℕ) → Reads (records l n index bs)
+  unfolding records
+  records-read zero index bs = tt
+  records-read (suc n) index bs = then-reads (entry l index bs) _ (entry-reads index bs) (λ r rest. giving-reads _ (records l n (after l r) rest) (records-read n (after l r) rest))
+
+  head-reads : (bs : List ℕ) → Reads (head l bs)
+  unfolding head
+  head-reads bs = giving-reads _ (bare l 0 bs) (bare-reads 0 bs)
+
+header-reads : (bs : List ℕ) → Reads (header bs)
+unfolding header headerWhole
+header-reads bs =
+    unless-reads _ 8 _ eight (given-reads _ 7 _ seven (λ t. unless-reads _ 8 _ eight (unless-reads _ 9 _ nine (unless-reads _ 10 _ ten tt))))
+
+structure-reads : (t : Table) (bs : List ℕ) → Reads (structure t bs)
+unfolding structure
+structure-reads Cds bs = giving-reads _ _ (records-read cds _ _ _)
+structure-reads Mms bs = giving-reads _ _ (records-read mms _ _ _)
+structure-reads Vcm bs = then-reads _ _ (head-reads vcmHead _) (λ h rest. giving-reads _ _ (records-read (vcm (h .included)) _ _ _))
+structure-reads Dcm bs = then-reads _ _ (head-reads dcmHead _) (λ h rest. giving-reads _ _ (records-read dcm _ _ _))
+
+revision-reads : (bs : List (List ℕ)) → Reads (revision bs)
+unfolding revision
+revision-reads [] = eleven
+revision-reads (b ∷ []) = unless-reads _ 11 _ eleven (unless-reads _ 11 _ eleven tt)
+revision-reads (b ∷ second ∷ more) = eleven
+
+content-reads : (bs : List ℕ) → Reads (content bs)
+unfolding content contentOf closing
+content-reads bs =
+    then-reads (header bs) _ (header-reads bs) (λ t rest.
+    then-reads (structure t bs) _ (structure-reads t bs) (λ x tail.
+    then-reads (filling (length tail) tail) _ (filling-reads (length tail) tail) (λ ds end.
+    giving-reads _ _ (revision-reads _))))
+
+whole-reads : (s : List ℕ) → Reads (whole s)
+unfolding whole
+whole-reads s =
+    unless-reads _ 3 _ (omega arith, omega arith)
+    (unless-reads _ 4 _ (omega arith, omega arith)
+    (unless-reads _ 5 _ (omega arith, omega arith)
+    (unless-reads _ 6 _ (omega arith, omega arith)
+    (content-reads _))))
+
+pub read-number : (s : List ℕ) (n : ℕ) → readSection s ≡ wrong n → OfSection n
+unfolding readSection read
+read-number s n e = go (whole s) (whole-reads s) e
+  where
+    go : (g : Got Content) → Reads g → read g ≡ wrong n → OfSection n
+    go (refused k) h e = let is : k ≡ n = cc in rw is at h
+    go (got c rest) h e = let z : _≡_ {A = ℕ} 0 1 = cc in absurd (omega arith)
+
+-- "The answer is 0 or the refusal."
+pub check-number : (s : List ℕ) → (check s ≡ 0) ⊎ OfSection (check s)
+unfolding check checkOf
+check-number s = go (readSection s) refl
+  where
+    go : (r : Reading) → readSection s ≡ r → (checkOf r ≡ 0) ⊎ OfSection (checkOf r)
+    go (wrong n) e = inr (read-number s n e)
+    go (right c) e = inl refl
+
+not-refused : (tag at : ℕ) (ds : List Descriptor) (n : ℕ) → firstOf tag at ds ≡ Asked.Refused n → ⊥
+unfolding firstOf
+not-refused tag at [] n e = let z : _≡_ {A = ℕ} 0 1 = cc in omega arith
+not-refused tag at (d ∷ ds) n e = go (eqb (d .tag) tag) e (not-refused tag (at + 2 + length (d .body)) ds n)
+  where
+    go : (t : Bool) → cond t (Asked.There (at + 2) (length (d .body))) (firstOf tag (at + 2 + length (d .body)) ds) ≡ Asked.Refused n → (firstOf tag (at + 2 + length (d .body)) ds ≡ Asked.Refused n → ⊥) → ⊥
+    go true q f = let z : _≡_ {A = ℕ} 0 1 = cc in omega arith
+    go false q f = f q
+
+pub ask-number : (tag : ℕ) (s : List ℕ) (n : ℕ) → ask tag s ≡ Asked.Refused n → OfSection n
+unfolding ask askedOf
+ask-number tag s n e = go (readSection s) refl e
+  where
+    go : (r : Reading) → readSection s ≡ r → askedOf tag s r ≡ Asked.Refused n → OfSection n
+    go (wrong k) r q = let is : k ≡ n = cc in read-number s n (r ∙ ap wrong is)
+    go (right c) r q = absurd (not-refused tag _ (c .closing) n q)
+
+-- ---- an offer: 1, 2, those of a section, 12 and 13
+
+abbrev pub OfOffer : ℕ → Type 0
+OfOffer n = (1 ≤ n) × (n ≤ 13)
+
+abbrev Answers : Answer → Type 0
+Answers (Refused n) = OfOffer n
+Answers OtherMap = Unit {0}
+Answers Repeat = Unit {0}
+Answers (Stored missing) = Unit {0}
+Answers (Live v) = Unit {0}
+
+step-number : (limit : ℕ) (h : Holding) (r : Revision) → Answers (stepOf limit h r .answer)
+unfolding stepOf liveOrStored
+step-number limit h r = go (leb limit (r .last)) (otherLast h r) (isRepeat h r) (eqb (heldWith h r) (allOf (r .last)))
+  where
+    go : (a b c d : Bool) → Answers (cond {A = Stepped} a (record { answer = Refused 12; holding = h }) (cond b (record { answer = Refused 13; holding = h }) (cond c (record { answer = Repeat; holding = h })
+        (cond d (record { answer = Live (r .version); holding = goneLive h r }) (record { answer = Stored (r .last + 1 - ones (heldWith h r)); holding = gathering h r (heldWith h r) })))) .answer)
+    go true b c d = (omega arith, omega arith)
+    go false true c d = (omega arith, omega arith)
+    go false false true d = tt
+    go false false false true = tt
+    go false false false false = tt
+
+offered-as-number : (s : State) (section : List ℕ) (r : Reading) → readSection section ≡ r → Answers (offeredAs s r .answer)
+unfolding offeredAs stepped
+offered-as-number s section (wrong n) e = let low = read-number section n e in (omega (arith, low .0), omega (arith, low .1))
+offered-as-number s section (right c) e = go (otherMap s c)
+  where
+    go : (b : Bool) → Answers (cond {A = Offered} b (record { answer = OtherMap; state = s }) (stepped s (c .table) (stepOf (limitOf s) (holdingOf s (c .table)) (c .revision))) .answer)
+    go true = tt
+    go false = step-number (limitOf s) (holdingOf s (c .table)) (c .revision)
+
+offered-number : (s : State) (size : ℕ) (section : List ℕ) → Answers (offered s size section .answer)
+unfolding offered
+offered-number s size section = go (ltb size (storeSize (limitOf s))) (wellFormed s)
+  where
+    go : (a b : Bool) → Answers (cond {A = Offered} a (record { answer = Refused 1; state = s }) (cond (not b) (record { answer = Refused 2; state = s }) (offeredAs s (readSection section))) .answer)
+    go true b = (omega arith, omega arith)
+    go false false = (omega arith, omega arith)
+    go false true = offered-as-number s section (readSection section) refl
+
+pub offer-number : (b : Box) (section : List ℕ) (n : ℕ) → answerTo b section ≡ Refused n → OfOffer n
+unfolding answerTo
+offer-number b section n e = subst Answers e (offered-number (b .state) (length (b .store)) section)
+
+-- ---- tuning: 1, 2, and 14 to 21
+
+abbrev pub OfTuning : ℕ → Type 0
+OfTuning n = ((1 ≤ n) × (n ≤ 2)) ⊎ ((14 ≤ n) × (n ≤ 21))
+
+abbrev Tunings : Tuned → Type 0
+Tunings (Tuned.Refused n) = OfTuning n
+Tunings (Tuned.Digital h path khz program mode) = Unit {0}
+Tunings (Tuned.Analogue h path khz standard scrambled) = Unit {0}
+Tunings (Tuned.Application h path source) = Unit {0}
+
+high : {n : ℕ} → 14 ≤ n → n ≤ 21 → OfTuning n
+high a b = inr (a, b)
+
+found-so : {R : Type 0} (o : Option R) (n : ℕ) (f : R → Tuned) → OfTuning n → ((r : R) → Tunings (f r)) → Tunings (found o n f)
+unfolding found
+found-so none n f h k = h
+found-so (some r) n f h k = k r
+
+signal-number : (p : Plant) (c : Channel) (khz : ℕ) (s : Signal) → Tunings (tuneSignal p c khz s)
+unfolding tuneSignal
+signal-number p c khz (Signal.Analogue scrambled standard) = tt
+signal-number p c khz (Signal.Digital program mode) =
+    needs-so Tunings _ 21 _ (high (omega arith) (omega arith)) (found-so _ 21 _ (high (omega arith) (omega arith)) (λ m. tt))
+
+channel-number : (p : Plant) (c : Channel) → Tunings (tuneChannel p c)
+unfolding tuneChannel tuneCarrier tuneKhz
+channel-number p c = go (eqb (c .application) 1)
+  where
+    go : (b : Bool) → Tunings (cond b (Tuned.Application (hidden c) (c .path) (c .source)) (tuneCarrier p c))
+    go true = tt
+    go false =
+        needs-so Tunings _ 19 _ (high (omega arith) (omega arith))
+        (found-so _ 19 _ (high (omega arith) (omega arith)) (λ e.
+        needs-so Tunings _ 20 _ (high (omega arith) (omega arith)) (signal-number p c _ (c .signal))))
+
+look-number : (p : Plant) (number : ℕ) → Tunings (lookUp p number)
+unfolding lookUp
+look-number p number =
+    needs-so Tunings _ 17 _ (high (omega arith) (omega arith)) (found-so _ 18 _ (high (omega arith) (omega arith)) (λ c. channel-number p (c .what)))
+
+tunings : (s : State) (store : List ℕ) (number : ℕ) → Tunings (tune s store number)
+unfolding tune
+tunings s store number =
+    needs-so Tunings _ 1 _ (inl (omega arith, omega arith))
+    (needs-so Tunings _ 2 _ (inl (omega arith, omega arith))
+    (needs-so Tunings _ 14 _ (high (omega arith) (omega arith))
+    (needs-so Tunings _ 15 _ (high (omega arith) (omega arith))
+    (needs-so Tunings _ 16 _ (high (omega arith) (omega arith))
+    (look-number (plant s store) number)))))
+
+pub tune-number : (s : State) (store : List ℕ) (number n : ℕ) → tune s store number ≡ Tuned.Refused n → OfTuning n
+tune-number s store number n e = subst Tunings e (tunings s store number)
