@@ -17,9 +17,9 @@ use Rattle.rules.specs.declared.Table.{Table}
 use Rattle.rules.specs.declared.Table.the-variants.{Cds, Mms, Vcm, Dcm}
 use Rattle.rules.proofs.Taken.{unless-got, then-got, giving-got, head-got}
 use Rattle.rules.proofs.Places.{from-length}
-use Rattle.rules.proofs.Right.{whole-got, reads-right}
+use Rattle.rules.proofs.Right.{header-facts, whole-got, reads-right}
 use Rattle.rules.proofs.Encoded.{closing-split, records-split}
-use Rattle.rules.proofs.Grown.{laid, header-facts}
+use Rattle.rules.proofs.Grown.{laid}
 
 -- ---- nothing added
 

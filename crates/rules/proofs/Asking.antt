@@ -37,6 +37,16 @@ none-absent tag at (d ∷ ds) e = go (eqb (d .tag) tag) e (none-absent tag (at +
     go true q f = let z : _≡_ {A = ℕ} 0 1 = cc in absurd (omega arith)
     go false q f = f q
 
+-- a list never refuses
+pub first-answers : (tag at : ℕ) (ds : List Descriptor) (n : ℕ) → firstOf tag at ds ≡ Asked.Refused n → ⊥
+unfolding firstOf
+first-answers tag at [] n e = let z : _≡_ {A = ℕ} 0 1 = cc in omega arith
+first-answers tag at (d ∷ ds) n e = go (eqb (d .tag) tag) e (first-answers tag (at + 2 + length (d .body)) ds n)
+  where
+    go : (t : Bool) → cond t (Asked.There (at + 2) (length (d .body))) (firstOf tag (at + 2 + length (d .body)) ds) ≡ Asked.Refused n → (firstOf tag (at + 2 + length (d .body)) ds ≡ Asked.Refused n → ⊥) → ⊥
+    go true q f = let z : _≡_ {A = ℕ} 0 1 = cc in omega arith
+    go false q f = f q
+
 -- the first body of a tag is the part that is answered
 record Shows (tag : ℕ) (b : List ℕ) (r : Asked) (x : List ℕ) : Type 0 where
   start : ℕ

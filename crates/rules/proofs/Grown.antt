@@ -3,27 +3,26 @@
 use Prim.Native.Nat.{ℕ, suc, _+_, _-_, _/_, _≤_, _<_}
 use native.Mathlib.Omega.{arith}
 use mathlib.Core.Path.{_≡_, refl, sym, ap, _∙_}
-use mathlib.Core.Bool.{Bool, true, false, cond, _&&_, _||_}
+use mathlib.Core.Bool.{Bool, true, false, cond}
 use mathlib.Core.List.{List, [], _∷_, _++_}
-use mathlib.Core.Option.{some}
 use lib.ListN.{length, length-append, List·getD-append}
 use lib.Seq.{take-at, drop-at, drop-append-le, getD-take, getD-drop}
-use lib.Dec.{ltb, eqb}
-use borrow.Author.Tests.{leb-true, le-leb, lt-ltb, eq-eqb, ne-eqb}
+use lib.Dec.{eqb}
+use borrow.Author.Tests.{le-leb, lt-ltb, eq-eqb, ne-eqb}
 use Rattle.rules.specs.Bytes.{Got, got, unless, andThen, giving, byte, from}
 use Rattle.rules.specs.Crc.{crcOf}
 use Rattle.rules.specs.Descriptors.{Descriptor, closing, bodies}
 use Rattle.rules.specs.Layout.{Layout, Numbered, numbered, bare, records, head}
 use Rattle.rules.specs.Tables.{cds, mms, vcmHead, vcm, dcmHead, dcm}
-use Rattle.rules.specs.Section.{Structure, carriers, modes, channels, ranges, structure, mediumAt, named, given, headerWhole, header, mapOf, revisionTag, revision, Content, contentOf, content, withoutCrc, right, readSection}
+use Rattle.rules.specs.Section.{Structure, carriers, modes, channels, ranges, structure, mediumAt, given, headerWhole, header, mapOf, revisionTag, revision, Content, contentOf, content, withoutCrc, right, readSection}
 use Rattle.rules.specs.Growth.{Piece, Parts, shape, Sized, Shaped, encoded, area, bytesOf, FullerPieces, GrownRevision, GrownClosing, GrownParts, Grown, empty, stays, added, revised}
 use Rattle.rules.specs.declared.VcmHead.{VcmHead}
 use Rattle.rules.specs.declared.DcmHead.{DcmHead}
 use Rattle.rules.specs.declared.Table.{Table}
 use Rattle.rules.specs.declared.Table.the-variants.{Cds, Mms, Vcm, Dcm}
-use Rattle.rules.proofs.Taken.{unless-got, giving-got, given-got}
+use Rattle.rules.proofs.Taken.{unless-got, giving-got}
 use Rattle.rules.proofs.Places.{from-length}
-use Rattle.rules.proofs.Right.{Made, made, fitting-long, Whole, whole-got, whole-so}
+use Rattle.rules.proofs.Right.{header-facts, Made, made, fitting-long, Whole, whole-got, whole-so}
 use Rattle.rules.proofs.Encoded.{closing-encoded, records-grown}
 
 -- the same, with another closing list
@@ -87,10 +86,10 @@ shaped-grown l size described count a b f s n m index x y rs rest e =
     let r = records-grown l f (rw (a, b) at s) index x y rs rest (rw (b, ← n) at e) in
     (r .0, rw (b, ← m) (r .1))
 
-reads-so : {R : Type 0} (says : List (Numbered R) → Structure) {good : Bool} {g : Got (List (Numbered R))} {x : Structure} {rs : List (Numbered R)} {rest : List ℕ}
+structure-so : {R : Type 0} (says : List (Numbered R) → Structure) {good : Bool} {g : Got (List (Numbered R))} {x : Structure} {rs : List (Numbered R)} {rest : List ℕ}
     → good ≡ true → g ≡ got rs rest → x ≡ says rs → unless good 9 (giving says g) ≡ got x rest
 unfolding unless giving
-reads-so says a b c = rw (a, b, c)
+structure-so says a b c = rw (a, b, c)
 
 -- the structure stays, and what it leaves is the closing list
 structure-grown : (t : Table) (p q : Parts) → Shaped t p → Shaped t q → GrownParts p q → (x : Structure) (rest : List ℕ) → structure t (bytesOf t p) ≡ got x rest
@@ -101,7 +100,7 @@ structure-grown t p q s s′ g x rest e =
     let u = unless-got _ _ _ _ _ (sym (l .reads _ _ _ _) ∙ e) in
     let v = giving-got _ _ _ _ (u .1) in
     let r = shaped-grown (l .layout) _ _ _ (l .size) (l .described) (g .pieces) (s .sized) (s .count) (rw (g .front) at (s′ .count)) (l .index) (encoded (p .closing)) (encoded (q .closing)) (v .0) rest (v .1) in
-    (r .0, rw (g .front) (l .reads _ _ _ _ ∙ reads-so (l .says) (u .0) (r .1) (v .2)))
+    (r .0, rw (g .front) (l .reads _ _ _ _ ∙ structure-so (l .says) (u .0) (r .1) (v .2)))
 
 -- ---- the header
 
@@ -121,18 +120,6 @@ parts-header t p q s g =
       zeros = g .zeros;
       last = λ i h. rw (g .front, List·getD-append (p .front) (area (shape t (p .front) .described) (q .pieces) ++ encoded (q .closing)) 0 i (omega (arith, s .front)), List·getD-append (p .front) (area (shape t (p .front) .described) (p .pieces) ++ encoded (p .closing)) 0 i (omega (arith, s .front)));
     }
-
-pub header-facts : (bs : List ℕ) (t : Table) (rest : List ℕ) → header bs ≡ got t rest
-    → (7 ≤ length bs) × (named (byte 0 bs) (byte (mediumAt bs) bs) ≡ some t) × ((eqb (byte 1 bs / 64) 0 && eqb (byte 3 bs / 32) 0) ≡ true) × ((eqb (byte 0 bs) 0xC4 || ltb 0 (byte 4 bs)) ≡ true)
-unfolding header headerWhole
-header-facts bs t rest e =
-    let g = given-got _ _ _ _ _ (unless-got _ _ _ _ _ e .1) in
-    let l = unless-got _ _ _ _ _ (g .1) in
-    let p = unless-got _ _ _ _ _ (l .1) in
-    let q = unless-got _ _ _ _ _ (p .1) in
-    let r = q .1 in
-    let is : g .0 ≡ t = cc in
-    (leb-true 7 (length bs) (l .0), g .2 ∙ ap some is, p .0, q .0)
 
 module _ (a b : List ℕ) (s : SameHeader a b) where
   medium-same : (mediumAt b < length b) × (byte (mediumAt b) b ≡ byte (mediumAt a) a)
@@ -161,11 +148,11 @@ module _ (a b : List ℕ) (s : SameHeader a b) where
 -- ---- the revision
 
 -- bodies that are judged alike, one by one
-data Alike : (before after : List (List ℕ)) → Type 0 where
-  none : Alike [] []
-  one : {xs ys : List (List ℕ)} {x y : List ℕ} → revision (y ∷ []) ≡ revision (x ∷ []) → Alike xs ys → Alike (x ∷ xs) (y ∷ ys)
+data SameBodies : (before after : List (List ℕ)) → Type 0 where
+  none : SameBodies [] []
+  one : {xs ys : List (List ℕ)} {x y : List ℕ} → revision (y ∷ []) ≡ revision (x ∷ []) → SameBodies xs ys → SameBodies (x ∷ xs) (y ∷ ys)
 
-revision-alike : {xs ys : List (List ℕ)} → Alike xs ys → revision ys ≡ revision xs
+revision-alike : {xs ys : List (List ℕ)} → SameBodies xs ys → revision ys ≡ revision xs
 unfolding revision
 revision-alike none = refl
 revision-alike (one e none) = e
@@ -189,12 +176,12 @@ module _ (d e : Descriptor) (r : GrownRevision d e) where
       let last : byte 2 (e .body) ≡ byte 2 (d .body) = later-same 1 (omega arith) in
       rw (le-leb _ _ long, le-leb _ _ (r .long), number, last, r .version)
 
-bodies-alike : {ds es : List Descriptor} → GrownClosing ds es → Alike (bodies revisionTag ds) (bodies revisionTag es)
+bodies-alike : {ds es : List Descriptor} → GrownClosing ds es → SameBodies (bodies revisionTag ds) (bodies revisionTag es)
 unfolding bodies
 bodies-alike empty = none
 bodies-alike (stays {ds} {es} d g) = go (eqb (d .tag) revisionTag) (bodies-alike g)
   where
-    go : (t : Bool) → Alike (bodies revisionTag ds) (bodies revisionTag es) → Alike (cond t (d .body ∷ bodies revisionTag ds) (bodies revisionTag ds)) (cond t (d .body ∷ bodies revisionTag es) (bodies revisionTag es))
+    go : (t : Bool) → SameBodies (bodies revisionTag ds) (bodies revisionTag es) → SameBodies (cond t (d .body ∷ bodies revisionTag ds) (bodies revisionTag ds)) (cond t (d .body ∷ bodies revisionTag es) (bodies revisionTag es))
     go true a = one refl a
     go false a = a
 bodies-alike (added d other g) = rw (ne-eqb (d .tag) revisionTag other) (bodies-alike g)

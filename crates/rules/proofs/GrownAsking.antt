@@ -1,23 +1,21 @@
 -- The descriptor question under growth: of a tag that growth did not add it tells the same, and of the revision's, whose bytes may
 -- grow, it tells bodies that read alike. "Of this question it covers only tags that growth didn't add, and for 0x93 the first three
 -- body bytes without their reserved bits."
-use Prim.Native.Nat.{ℕ, _+_, _%_, _≤_}
+use Prim.Native.Nat.{ℕ, _%_, _≤_}
 use native.Mathlib.Omega.{arith}
 use mathlib.Core.Path.{_≡_, refl, sym, ap, _∙_}
-use mathlib.Core.Bool.{Bool, true, false, cond}
 use mathlib.Core.List.{List, [], _∷_}
 use lib.ListN.{length, take, drop}
-use lib.Dec.{eqb}
 use borrow.Author.Tests.{ne-eqb}
 use Rattle.rules.specs.Bytes.{byte}
 use Rattle.rules.specs.Descriptors.{Descriptor, bodies}
-use Rattle.rules.specs.Section.{revisionTag, revision, Content, right, readSection, firstOf, askedOf, ask, partOf}
+use Rattle.rules.specs.Section.{revisionTag, revision, Content, right, readSection, askedOf, ask, partOf}
 use Rattle.rules.specs.Growth.{GrownClosing, empty, stays, added, revised, Grown}
 use Rattle.rules.specs.declared.Revision.{Revision}
 use Rattle.rules.specs.declared.Asked.{Asked}
 use Rattle.rules.specs.declared.Asked.the-variants as Asked
 use Rattle.rules.proofs.Right.{ReadFrom, read-from, reads-right}
-use Rattle.rules.proofs.Asking.{asked-none, none-asked, asked-body}
+use Rattle.rules.proofs.Asking.{first-answers, asked-none, none-asked, asked-body}
 use Rattle.rules.proofs.Grown.{withClosing, grown-closing, grown-reads}
 
 -- what the question tells: the refusal, that there is none, or the body
@@ -37,19 +35,10 @@ toldBy : List (List ℕ) → Told
 toldBy [] = none
 toldBy (x ∷ more) = body x
 
-not-refused : (tag at n : ℕ) (ds : List Descriptor) → firstOf tag at ds ≡ Asked.Refused n → ⊥
-unfolding firstOf
-not-refused tag at n [] e = let z : _≡_ {A = ℕ} 0 1 = cc in absurd (omega arith)
-not-refused tag at n (d ∷ ds) e = go (eqb (d .tag) tag) e (not-refused tag (at + 2 + length (d .body)) n ds)
-  where
-    go : (t : Bool) → cond t (Asked.There (at + 2) (length (d .body))) (firstOf tag (at + 2 + length (d .body)) ds) ≡ Asked.Refused n → (firstOf tag (at + 2 + length (d .body)) ds ≡ Asked.Refused n → ⊥) → ⊥
-    go true q f = let z : _≡_ {A = ℕ} 0 1 = cc in absurd (omega arith)
-    go false q f = f q
-
 module _ (tag : ℕ) (s : List ℕ) (c : Content) (r : readSection s ≡ right c) where
   told-body : (x : List ℕ) (more : List (List ℕ)) → bodies tag (c .closing) ≡ x ∷ more → (a : Asked) → ask tag s ≡ a → partOf s a ≡ x → told s a ≡ body x
   unfolding told partOf ask askedOf
-  told-body x more e (Asked.Refused n) q p = absurd (not-refused tag _ n (c .closing) (sym (ap (askedOf tag s) r) ∙ q))
+  told-body x more e (Asked.Refused n) q p = absurd (first-answers tag _ (c .closing) n (sym (ap (askedOf tag s) r) ∙ q))
   told-body x more e Asked.Absent q p = let none : [] ≡ x ∷ more = sym (asked-none tag s c r q) ∙ e in let z : _≡_ {A = ℕ} 0 1 = cc in absurd (omega arith)
   told-body x more e (Asked.There start size) q p = ap body p
 

@@ -13,7 +13,7 @@ use Rattle.rules.specs.Bytes.{Got, refused, got, unless, andThen, giving
 use Rattle.rules.specs.Descriptors.{Descriptor, descriptor, passed, counted, filling, closing}
 use Rattle.rules.specs.Layout.{Layout, bare, entry, after, records, head}
 use Rattle.rules.specs.Tables.{cds, mms, vcmHead, vcm, dcmHead, dcm}
-use Rattle.rules.specs.Section.{given, headerWhole, header, structure, revision, Content, contentOf, content, whole, Reading, wrong, right, read, readSection, checkOf, check, firstOf, askedOf, ask}
+use Rattle.rules.specs.Section.{given, headerWhole, header, structure, revision, Content, contentOf, content, whole, Reading, wrong, right, read, readSection, checkOf, check, askedOf, ask}
 use Rattle.rules.specs.Holding.{limitOf, storeSize, holdingOf, wellFormed, allOf, otherLast, isRepeat, goneLive, gathering, liveOrStored, heldWith, stepOf, otherMap, stepped, offeredAs, offered, Box, answerTo}
 use Rattle.rules.specs.Tuning.{Plant, plant, found, hidden, tuneSignal, tuneKhz, tuneCarrier, tuneChannel, lookUp, tune}
 use Rattle.rules.specs.declared.Table.{Table}
@@ -32,6 +32,7 @@ use Rattle.rules.specs.declared.Asked.{Asked}
 use Rattle.rules.specs.declared.Asked.the-variants as Asked
 use Rattle.rules.specs.declared.Tuned.{Tuned}
 use Rattle.rules.specs.declared.Tuned.the-variants as Tuned
+use Rattle.rules.proofs.Asking.{first-answers}
 use Rattle.rules.proofs.Reach.{needs-so}
 
 -- ---- a section: 3 to 11
@@ -39,31 +40,32 @@ use Rattle.rules.proofs.Reach.{needs-so}
 abbrev pub OfSection : ℕ → Type 0
 OfSection n = (3 ≤ n) × (n ≤ 11)
 
-abbrev Reads : {A : Type 0} → Got A → Type 0
-Reads (refused n) = OfSection n
-Reads (got a rest) = Unit {0}
+-- what is refused is refused by one of them
+abbrev ByNumber : {A : Type 0} → Got A → Type 0
+ByNumber (refused n) = OfSection n
+ByNumber (got a rest) = Unit {0}
 
 module _ {A : Type 0} where
-  unless-reads : (t : Bool) (n : ℕ) (g : Got A) → OfSection n → Reads g → Reads (unless t n g)
+  unless-by : (t : Bool) (n : ℕ) (g : Got A) → OfSection n → ByNumber g → ByNumber (unless t n g)
   unfolding unless
-  unless-reads true n g low h = h
-  unless-reads false n g low h = low
+  unless-by true n g low h = h
+  unless-by false n g low h = low
 
   module _ {B : Type 0} where
-    then-reads : (g : Got A) (f : A → List ℕ → Got B) → Reads g → ((a : A) (rest : List ℕ) → Reads (f a rest)) → Reads (andThen g f)
+    then-by : (g : Got A) (f : A → List ℕ → Got B) → ByNumber g → ((a : A) (rest : List ℕ) → ByNumber (f a rest)) → ByNumber (andThen g f)
     unfolding andThen
-    then-reads (refused n) f h k = h
-    then-reads (got a rest) f h k = k a rest
+    then-by (refused n) f h k = h
+    then-by (got a rest) f h k = k a rest
 
-    giving-reads : (f : A → B) (g : Got A) → Reads g → Reads (giving f g)
+    giving-by : (f : A → B) (g : Got A) → ByNumber g → ByNumber (giving f g)
     unfolding giving
-    giving-reads f (refused n) h = h
-    giving-reads f (got a rest) h = tt
+    giving-by f (refused n) h = h
+    giving-by f (got a rest) h = tt
 
-    given-reads : (o : Option A) (n : ℕ) (f : A → Got B) → OfSection n → ((a : A) → Reads (f a)) → Reads (given o n f)
+    given-by : (o : Option A) (n : ℕ) (f : A → Got B) → OfSection n → ((a : A) → ByNumber (f a)) → ByNumber (given o n f)
     unfolding given
-    given-reads none n f low h = low
-    given-reads (some a) n f low h = h a
+    given-by none n f low h = low
+    given-by (some a) n f low h = h a
 
 abbrev seven : OfSection 7
 seven = (omega arith, omega arith)
@@ -80,87 +82,87 @@ ten = (omega arith, omega arith)
 abbrev eleven : OfSection 11
 eleven = (omega arith, omega arith)
 
-descriptor-reads : (bs : List ℕ) → Reads (descriptor bs)
+descriptor-by : (bs : List ℕ) → ByNumber (descriptor bs)
 unfolding descriptor
-descriptor-reads bs = unless-reads _ 8 _ eight (unless-reads _ 8 _ eight tt)
+descriptor-by bs = unless-by _ 8 _ eight (unless-by _ 8 _ eight tt)
 
-passed-reads : (n : ℕ) (bs : List ℕ) → Reads (passed n bs)
+passed-by : (n : ℕ) (bs : List ℕ) → ByNumber (passed n bs)
 unfolding passed
-passed-reads zero bs = tt
-passed-reads (suc n) bs = then-reads (descriptor bs) _ (descriptor-reads bs) (λ d rest. passed-reads n rest)
+passed-by zero bs = tt
+passed-by (suc n) bs = then-by (descriptor bs) _ (descriptor-by bs) (λ d rest. passed-by n rest)
 
-counted-reads : (described : Bool) (bs : List ℕ) → Reads (counted described bs)
+counted-by : (described : Bool) (bs : List ℕ) → ByNumber (counted described bs)
 unfolding counted
-counted-reads false bs = tt
-counted-reads true bs = unless-reads _ 8 _ eight (passed-reads _ _)
+counted-by false bs = tt
+counted-by true bs = unless-by _ 8 _ eight (passed-by _ _)
 
-filling-reads : (n : ℕ) (bs : List ℕ) → Reads (filling n bs)
+filling-by : (n : ℕ) (bs : List ℕ) → ByNumber (filling n bs)
 unfolding filling
-filling-reads zero bs = tt
-filling-reads (suc n) bs = go (eqb (length bs) 0) _ (then-reads (descriptor bs) _ (descriptor-reads bs) (λ d rest. giving-reads _ (filling n rest) (filling-reads n rest)))
+filling-by zero bs = tt
+filling-by (suc n) bs = go (eqb (length bs) 0) _ (then-by (descriptor bs) _ (descriptor-by bs) (λ d rest. giving-by _ (filling n rest) (filling-by n rest)))
   where
-    go : (t : Bool) (g : Got (List Descriptor)) → Reads g → Reads (cond t (got [] bs) g)
+    go : (t : Bool) (g : Got (List Descriptor)) → ByNumber g → ByNumber (cond t (got [] bs) g)
     go true g h = tt
     go false g h = h
 
 module _ {R : Type 0} (l : Layout R) where
-  bare-reads : (index : ℕ) (bs : List ℕ) → Reads (bare l index bs)
+  bare-by : (index : ℕ) (bs : List ℕ) → ByNumber (bare l index bs)
   unfolding bare
-  bare-reads index bs = unless-reads _ 8 _ eight (unless-reads _ 9 _ nine (unless-reads _ 10 _ ten tt))
+  bare-by index bs = unless-by _ 8 _ eight (unless-by _ 9 _ nine (unless-by _ 10 _ ten tt))
 
-  entry-reads : (index : ℕ) (bs : List ℕ) → Reads (entry l index bs)
+  entry-by : (index : ℕ) (bs : List ℕ) → ByNumber (entry l index bs)
   unfolding entry
-  entry-reads index bs = then-reads (bare l index bs) _ (bare-reads index bs) (λ r rest. giving-reads _ (counted (l .described) rest) (counted-reads (l .described) rest))
+  entry-by index bs = then-by (bare l index bs) _ (bare-by index bs) (λ r rest. giving-by _ (counted (l .described) rest) (counted-by (l .described) rest))
 
-  records-read : (n index : ℕ) (bs : List ℕ) → Reads (records l n index bs)
+  records-by : (n index : ℕ) (bs : List ℕ) → ByNumber (records l n index bs)
   unfolding records
-  records-read zero index bs = tt
-  records-read (suc n) index bs = then-reads (entry l index bs) _ (entry-reads index bs) (λ r rest. giving-reads _ (records l n (after l r) rest) (records-read n (after l r) rest))
+  records-by zero index bs = tt
+  records-by (suc n) index bs = then-by (entry l index bs) _ (entry-by index bs) (λ r rest. giving-by _ (records l n (after l r) rest) (records-by n (after l r) rest))
 
-  head-reads : (bs : List ℕ) → Reads (head l bs)
+  head-by : (bs : List ℕ) → ByNumber (head l bs)
   unfolding head
-  head-reads bs = giving-reads _ (bare l 0 bs) (bare-reads 0 bs)
+  head-by bs = giving-by _ (bare l 0 bs) (bare-by 0 bs)
 
-header-reads : (bs : List ℕ) → Reads (header bs)
+header-by : (bs : List ℕ) → ByNumber (header bs)
 unfolding header headerWhole
-header-reads bs =
-    unless-reads _ 8 _ eight (given-reads _ 7 _ seven (λ t. unless-reads _ 8 _ eight (unless-reads _ 9 _ nine (unless-reads _ 10 _ ten tt))))
+header-by bs =
+    unless-by _ 8 _ eight (given-by _ 7 _ seven (λ t. unless-by _ 8 _ eight (unless-by _ 9 _ nine (unless-by _ 10 _ ten tt))))
 
-structure-reads : (t : Table) (bs : List ℕ) → Reads (structure t bs)
+structure-by : (t : Table) (bs : List ℕ) → ByNumber (structure t bs)
 unfolding structure
-structure-reads Cds bs = giving-reads _ _ (records-read cds _ _ _)
-structure-reads Mms bs = giving-reads _ _ (records-read mms _ _ _)
-structure-reads Vcm bs = then-reads _ _ (head-reads vcmHead _) (λ h rest. giving-reads _ _ (records-read (vcm (h .included)) _ _ _))
-structure-reads Dcm bs = then-reads _ _ (head-reads dcmHead _) (λ h rest. giving-reads _ _ (records-read dcm _ _ _))
+structure-by Cds bs = giving-by _ _ (records-by cds _ _ _)
+structure-by Mms bs = giving-by _ _ (records-by mms _ _ _)
+structure-by Vcm bs = then-by _ _ (head-by vcmHead _) (λ h rest. giving-by _ _ (records-by (vcm (h .included)) _ _ _))
+structure-by Dcm bs = then-by _ _ (head-by dcmHead _) (λ h rest. giving-by _ _ (records-by dcm _ _ _))
 
-revision-reads : (bs : List (List ℕ)) → Reads (revision bs)
+revision-by : (bs : List (List ℕ)) → ByNumber (revision bs)
 unfolding revision
-revision-reads [] = eleven
-revision-reads (b ∷ []) = unless-reads _ 11 _ eleven (unless-reads _ 11 _ eleven tt)
-revision-reads (b ∷ second ∷ more) = eleven
+revision-by [] = eleven
+revision-by (b ∷ []) = unless-by _ 11 _ eleven (unless-by _ 11 _ eleven tt)
+revision-by (b ∷ second ∷ more) = eleven
 
-content-reads : (bs : List ℕ) → Reads (content bs)
+content-by : (bs : List ℕ) → ByNumber (content bs)
 unfolding content contentOf closing
-content-reads bs =
-    then-reads (header bs) _ (header-reads bs) (λ t rest.
-    then-reads (structure t bs) _ (structure-reads t bs) (λ x tail.
-    then-reads (filling (length tail) tail) _ (filling-reads (length tail) tail) (λ ds end.
-    giving-reads _ _ (revision-reads _))))
+content-by bs =
+    then-by (header bs) _ (header-by bs) (λ t rest.
+    then-by (structure t bs) _ (structure-by t bs) (λ x tail.
+    then-by (filling (length tail) tail) _ (filling-by (length tail) tail) (λ ds end.
+    giving-by _ _ (revision-by _))))
 
-whole-reads : (s : List ℕ) → Reads (whole s)
+whole-by : (s : List ℕ) → ByNumber (whole s)
 unfolding whole
-whole-reads s =
-    unless-reads _ 3 _ (omega arith, omega arith)
-    (unless-reads _ 4 _ (omega arith, omega arith)
-    (unless-reads _ 5 _ (omega arith, omega arith)
-    (unless-reads _ 6 _ (omega arith, omega arith)
-    (content-reads _))))
+whole-by s =
+    unless-by _ 3 _ (omega arith, omega arith)
+    (unless-by _ 4 _ (omega arith, omega arith)
+    (unless-by _ 5 _ (omega arith, omega arith)
+    (unless-by _ 6 _ (omega arith, omega arith)
+    (content-by _))))
 
 pub read-number : (s : List ℕ) (n : ℕ) → readSection s ≡ wrong n → OfSection n
 unfolding readSection read
-read-number s n e = go (whole s) (whole-reads s) e
+read-number s n e = go (whole s) (whole-by s) e
   where
-    go : (g : Got Content) → Reads g → read g ≡ wrong n → OfSection n
+    go : (g : Got Content) → ByNumber g → read g ≡ wrong n → OfSection n
     go (refused k) h e = let is : k ≡ n = cc in rw is at h
     go (got c rest) h e = let z : _≡_ {A = ℕ} 0 1 = cc in absurd (omega arith)
 
@@ -173,22 +175,13 @@ check-number s = go (readSection s) refl
     go (wrong n) e = inr (read-number s n e)
     go (right c) e = inl refl
 
-not-refused : (tag at : ℕ) (ds : List Descriptor) (n : ℕ) → firstOf tag at ds ≡ Asked.Refused n → ⊥
-unfolding firstOf
-not-refused tag at [] n e = let z : _≡_ {A = ℕ} 0 1 = cc in omega arith
-not-refused tag at (d ∷ ds) n e = go (eqb (d .tag) tag) e (not-refused tag (at + 2 + length (d .body)) ds n)
-  where
-    go : (t : Bool) → cond t (Asked.There (at + 2) (length (d .body))) (firstOf tag (at + 2 + length (d .body)) ds) ≡ Asked.Refused n → (firstOf tag (at + 2 + length (d .body)) ds ≡ Asked.Refused n → ⊥) → ⊥
-    go true q f = let z : _≡_ {A = ℕ} 0 1 = cc in omega arith
-    go false q f = f q
-
 pub ask-number : (tag : ℕ) (s : List ℕ) (n : ℕ) → ask tag s ≡ Asked.Refused n → OfSection n
 unfolding ask askedOf
 ask-number tag s n e = go (readSection s) refl e
   where
     go : (r : Reading) → readSection s ≡ r → askedOf tag s r ≡ Asked.Refused n → OfSection n
     go (wrong k) r q = let is : k ≡ n = cc in read-number s n (r ∙ ap wrong is)
-    go (right c) r q = absurd (not-refused tag _ (c .closing) n q)
+    go (right c) r q = absurd (first-answers tag _ (c .closing) n q)
 
 -- ---- an offer: 1, 2, those of a section, 12 and 13
 

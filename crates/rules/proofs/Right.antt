@@ -1,20 +1,35 @@
 -- What a section that reads right is made of, and where its closing list stands.
-use Prim.Native.Nat.{ℕ, _+_, _-_, _%_, _≤_}
+use Prim.Native.Nat.{ℕ, _+_, _-_, _/_, _%_, _≤_}
 use native.Mathlib.Omega.{arith}
 use mathlib.Core.Path.{_≡_, refl, sym, ap, subst, _∙_}
 use mathlib.Core.Bool.{true, _&&_, _||_}
 use mathlib.Core.List.{List, [], _∷_}
+use mathlib.Core.Option.{some}
 use lib.ListN.{length}
-use lib.Dec.{leb, eqb}
+use lib.Dec.{leb, ltb, eqb}
 use borrow.Author.Tests.{leb-true, eqb-true}
 use Rattle.rules.specs.Bytes.{Got, refused, got, unless, byte, from}
 use Rattle.rules.specs.Crc.{crcOf}
 use Rattle.rules.specs.Descriptors.{closing, bodies}
-use Rattle.rules.specs.Section.{lengthOf, header, mapOf, structure, revisionTag, revision, Content, contentOf, content, fitting, withoutCrc, whole, wrong, right, read, readSection, closingAt}
+use Rattle.rules.specs.Section.{lengthOf, mediumAt, named, headerWhole, header, mapOf, structure, revisionTag, revision, Content, contentOf, content, fitting, withoutCrc, whole, wrong, right, read, readSection, closingAt}
+use Rattle.rules.specs.declared.Table.{Table}
 use Rattle.rules.specs.declared.Revision.{Revision}
-use Rattle.rules.proofs.Taken.{both-left, both-right, unless-got, then-got, giving-got}
+use Rattle.rules.proofs.Taken.{both-left, both-right, unless-got, then-got, giving-got, given-got}
 use Rattle.rules.proofs.Closing.{closing-size}
 use Rattle.rules.proofs.Places.{structure-place}
+
+-- a header that was got: it is whole, names the table, and its zero bits and first index are right
+pub header-facts : (bs : List ℕ) (t : Table) (rest : List ℕ) → header bs ≡ got t rest
+    → (7 ≤ length bs) × (named (byte 0 bs) (byte (mediumAt bs) bs) ≡ some t) × ((eqb (byte 1 bs / 64) 0 && eqb (byte 3 bs / 32) 0) ≡ true) × ((eqb (byte 0 bs) 0xC4 || ltb 0 (byte 4 bs)) ≡ true)
+unfolding header headerWhole
+header-facts bs t rest e =
+    let g = given-got _ _ _ _ _ (unless-got _ _ _ _ _ e .1) in
+    let l = unless-got _ _ _ _ _ (g .1) in
+    let p = unless-got _ _ _ _ _ (l .1) in
+    let q = unless-got _ _ _ _ _ (p .1) in
+    let r = q .1 in
+    let is : g .0 ≡ t = cc in
+    (leb-true 7 (length bs) (l .0), g .2 ∙ ap some is, p .0, q .0)
 
 -- the content of the bytes without the CRC
 pub record Made (bs : List ℕ) (c : Content) : Type 0 where

@@ -7,7 +7,7 @@ use mathlib.Core.List.{List}
 use mathlib.Core.Option.{Option, none, some}
 use lib.ListN.{length}
 use lib.Dec.{eqb}
-use borrow.Author.Tests.{leb-true, eq-eqb, ne-eqb, lt-ltb, le-ltb}
+use borrow.Author.Tests.{eq-eqb, ne-eqb, lt-ltb, le-ltb}
 use Rattle.rules.specs.Bytes.{Got, refused, got, unless, andThen, giving, byte, from}
 use Rattle.rules.specs.Crc.{crcOf}
 use Rattle.rules.specs.Descriptors.{Descriptor, closing, bodies}
@@ -17,7 +17,7 @@ use Rattle.rules.specs.declared.Revision.{Revision}
 use Rattle.rules.specs.declared.SectionHead.{SectionHead}
 use Rattle.rules.specs.declared.Read.the-variants as reads
 use Rattle.rules.specs.declared.Asked.the-variants as asked
-use Rattle.rules.proofs.Taken.{unless-got, then-got, given-got}
+use Rattle.rules.proofs.Taken.{then-got}
 use Rattle.rules.proofs.Closing.{closing-size}
 use Rattle.rules.proofs.Places.{from-length}
 use Rattle.rules.proofs.Right.{reads-right, closing-place}
@@ -52,12 +52,6 @@ module _ (bs : List ℕ) where
     pub header-named : (t : Table) → named.Table t ≡ namedAs (named (byte 0 bs) (byte (mediumAt bs) bs)) → header bs ≡ headerWhole t bs
     unfolding header unless given
     header-named t e = rw (lt-ltb _ _ h, name-of _ t e)
-
-  pub header-long : (t : Table) (rest : List ℕ) → header bs ≡ got t rest → 7 ≤ length bs
-  unfolding header headerWhole
-  header-long t rest e =
-      let g = given-got _ _ _ _ _ (unless-got _ _ _ _ _ e .1) in
-      leb-true 7 (length bs) (unless-got _ _ _ _ _ (g .1) .0)
 
 -- the cases of the header's answer
 module _ (g : Got Table) where

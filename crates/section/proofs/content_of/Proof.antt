@@ -2,12 +2,13 @@
 use mathlib.Core.Path.{sym, ap, _∙_}
 use borrow.Author.Needs.{needs}
 use Rattle.section.specs.Reads.{shown}
-use Rattle.section.proofs.Whole.{header-long, header-got, header-no, shown-no, content-unheaded, content-headed}
+use Rattle.rules.proofs.Right.{header-facts}
+use Rattle.section.proofs.Whole.{header-got, header-no, shown-no, content-unheaded, content-headed}
 use Rattle.section.proofs.content_of.Statement.{statement}
 use Rattle.section.proofs.content_of.Tie as tie
 
 structured-requires : tie.Need-structured-requires
-structured-requires c κs = let g = header-got _ _ (sym (c .before .header2 .given .1) ∙ c .before .before .before .header-of .ensures) in header-long _ _ (g .0) (g .1)
+structured-requires c κs = let g = header-got _ _ (sym (c .before .header2 .given .1) ∙ c .before .before .before .header-of .ensures) in header-facts _ _ (g .0) (g .1) .0
 
 returns : tie.Need-returns
 returns c = shown-no _ _ _ (content-unheaded _ _ (header-no _ _ (sym (c .before .header .given .1) ∙ c .before .before .before .header-of .ensures)))
