@@ -3,6 +3,7 @@ use Prim.Native.Nat.{ℕ, _≤_}
 use mathlib.Core.Path.{_≡_}
 use mathlib.Core.Bool.{true, false}
 use mathlib.Core.List.{List, _∷_}
+use lib.ListN.{length}
 use Rattle.rules.specs.Section.{Structure, Content, right, readSection, withoutCrc}
 use Rattle.rules.specs.Holding.{holdingOf, Box, answerTo, boxAfter, run, fresh}
 use Rattle.rules.specs.Tuning.{allLive, allRead, liveRecords, tune}
@@ -19,6 +20,7 @@ use Rattle.rules.proofs.GoingLive.{Promised, Wanted, NoneOther, goes-li
 use Rattle.rules.proofs.Faithful.{run-reads}
 use Rattle.rules.proofs.Answered.{Answered, answered, answered-only}
 use Rattle.rules.proofs.Apart.{in-parts}
+use Rattle.rules.proofs.GrownRuns.{SameRun, any-store}
 
 pub record Condition2 : Type 1 where
   -- "A section is read as SCTE 65 lays it out, under the rules of document 01": the paper's own examples, C1 to C13; and of a section that
@@ -48,11 +50,14 @@ pub record Condition2 : Type 1 where
   pub own-table : {R : Type 0} (records : Structure → List R) (b : Box) (section : List ℕ) (t : Table) → goesLive (answerTo b section) ≡ false
       → liveRecords records (boxAfter b section .state) (boxAfter b section .store) t ≡ liveRecords records (b .state) (b .store) t
   -- "a channel number gets the frequency, mode and programme that the live tables give it": `Answered` tells each answer in words, by the
-  -- first matching live records, and exactly one is allowed; of a fresh box, with any store, the live places always read
+  -- first matching live records, and exactly one is allowed; of a fresh box, with any store, the live places always read, and what stood
+  -- in the store before is seen in no answer, no state and no tuning
   pub tuned-by-live : (s : State) (store : List ℕ) (number : ℕ) → Answered s store number (tune s store number)
   pub and-nothing-else : (s : State) (store : List ℕ) (number : ℕ) (x : Tuned) → Answered s store number x → x ≡ tune s store number
   pub live-reads : (map : ℕ) (store : List ℕ) (sections : List (List ℕ)) → allLive (run (record { state = fresh map; store = store }) sections .state) ≡ true
       → allRead (run (record { state = fresh map; store = store }) sections .state) (run (record { state = fresh map; store = store }) sections .store) ≡ true
+  pub any-store : (map : ℕ) (store other : List ℕ) → length other ≡ length store → (sections : List (List ℕ))
+      → SameRun (record { state = fresh map; store = store }) sections (record { state = fresh map; store = other }) sections
 
 pub condition2 : Condition2
 condition2 =
@@ -71,4 +76,5 @@ condition2 =
       tuned-by-live = answered;
       and-nothing-else = answered-only;
       live-reads = run-reads;
+      any-store = any-store;
     }

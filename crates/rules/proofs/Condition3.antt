@@ -51,7 +51,7 @@ pub record Condition3 : Type 0 where
   -- "Take a run of sections given to a fresh box, and let some that read right be grown ..: every answer in the run, every live version and
   -- every channel's tuning are the same as without the growth": for every box, so for a fresh one with any store. The state after is
   -- the same in all its fields, and what is printed is the same, byte for byte
-  pub same-run : (b : Box) {before after : List (List ℕ)} → GrownRun before after → SameRun b before after
+  pub same-run : (b : Box) {before after : List (List ℕ)} → GrownRun before after → SameRun b before b after
   pub same-print : (b : Box) {before after : List (List ℕ)} → GrownRun before after → printedOf b after ≡ printedOf b before
   -- several growths of one section are one; and every section that reads right may be grown: it is a growth of itself
   pub grown-twice : (s g h : List ℕ) → Grown s g → Grown g h → Grown s h

@@ -35,17 +35,17 @@ pub record Faithful (start : State) (store : List ℕ) (limit : ℕ) (t : Table)
 -- ---- numbers of a well-formed holding are below the limit
 
 module _ (limit : ℕ) (h : Holding) (good : holdingFormed limit h ≡ true) where
-  live-low : h .live .present ≡ 1 → h .live .last < limit
+  pub live-low : h .live .present ≡ 1 → h .live .last < limit
   unfolding liveFormed
   live-low e =
       ltb-true (h .live .last) limit (both-right (leb (h .live .version) 31) _ (simp (eq-eqb (h .live .present) 1 e) at (formed limit h good .live)))
 
-  gathered-low : (n : ℕ) → h .gathered .present ≡ 1 → holds (h .gathered .held) n ≡ true → n < limit
+  pub gathered-low : (n : ℕ) → h .gathered .present ≡ 1 → holds (h .gathered .held) n ≡ true → n < limit
   gathered-low n e q =
       let below = gathered-clauses limit h good e in
       omega (arith, held-below (h .gathered .last + 1) (h .gathered .held) n (omega (arith, below .1, all-lt (h .gathered .last))) q, below .0)
 
-gathered-named : (h : Holding) (v : ℕ) → isGathered h v ≡ true → (h .gathered .present ≡ 1) × (h .gathered .version ≡ v)
+pub gathered-named : (h : Holding) (v : ℕ) → isGathered h v ≡ true → (h .gathered .present ≡ 1) × (h .gathered .version ≡ v)
 unfolding isGathered
 gathered-named h v g =
     (eqb-true (h .gathered .present) 1 (both-left (eqb (h .gathered .present) 1) _ g), eqb-true (h .gathered .version) v (both-right (eqb (h .gathered .present) 1) _ g))

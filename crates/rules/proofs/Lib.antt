@@ -28,6 +28,7 @@ pub mod Grown
 pub mod Apart
 pub mod Again
 pub mod GrownAsking
+pub mod Alike
 pub mod GrownRuns
 pub mod Determined
 pub mod Condition1
