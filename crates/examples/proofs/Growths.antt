@@ -1,24 +1,26 @@
--- Growth is no empty word: of each table a section and one that it may grow into, with descriptors in the lists of its records, in its
--- closing list, a longer revision descriptor and other reserved bits; and the example plant, grown whole. All by computation.
+-- Growth is no empty word: of each table a section and one that it may grow into, with descriptors in the lists of its records and in its
+-- closing list, a longer revision descriptor and other reserved bits, of the VCM with and without lists behind its records; and the example
+-- plant, grown whole. All by computation.
 use Prim.Native.Nat.{ℕ}
 use Prim.Native.String.{String}
 use native.Mathlib.Omega.{arith}
-use mathlib.Core.Path.{_≡_, refl}
-use mathlib.Core.List.{List, [], _∷_}
+use mathlib.Core.Path.{_≡_, refl, sym, _∙_}
+use mathlib.Core.List.{List, [], _∷_, _++_, flatten}
+use Rattle.rules.specs.Bytes.{byte, from}
 use Rattle.rules.specs.Descriptors.{Descriptor}
-use Rattle.rules.specs.Section.{modes, channels, ranges, Content}
-use Rattle.rules.specs.Growth.{FullerList, empty, stays, added, revised, Piece, end, next, Grown, GrownRun}
+use Rattle.rules.specs.Section.{lengthOf, Structure, modes, channels, ranges, Content}
+use Rattle.rules.specs.Growth.{FullerList, GrownClosing, empty, stays, added, other, revised, Piece, Parts, end, next, Grown, GrownRun, grown}
 use Rattle.rules.specs.Growth
-use Rattle.rules.specs.Lineup.{freshBox, printedOf}
+use Rattle.rules.specs.Lineup.{text, cut, sectionsOf, freshBox, printedOf, lineup}
+use Rattle.rules.specs.declared.Table.{Table}
 use Rattle.rules.specs.declared.Table.the-variants.{Mms, Vcm, Dcm}
 use Rattle.rules.specs.declared.Signal.the-variants.{Digital}
-use Rattle.rules.specs.declared.Tuned.the-variants as Tuned
 use Rattle.rules.proofs.Hex.{hex}
 use Rattle.rules.proofs.Computed.{computed}
 use Rattle.rules.proofs.Taken.{differ}
-use Rattle.rules.proofs.GrownRuns.{grown-printed}
 use Rattle.rules.proofs.Examples.{c1Content, c7Ranges, c12Mode}
-use Rattle.examples.proofs.Printed.{examplePlant}
+use Rattle.rules.proofs.GrownRuns.{grown-printed}
+use Rattle.examples.proofs.Printed.{examplePlant, printed}
 
 -- a descriptor, and a record with its list
 abbrev d : (tag : ℕ) → (body : String) → Descriptor
@@ -27,16 +29,16 @@ d tag body = record { tag = tag; body = hex body }
 abbrev p : (own : String) → List Descriptor → Piece
 p own list = record { own = hex own; list = list }
 
--- what a section with the record of C9 reads as, with or without lists behind its records
-abbrev c9Content : (included : ℕ) → List Descriptor → Content
-c9Content included closing =
-    record {
-      table = Vcm;
-      map = 0;
-      structure = channels (record { included = included; splice = 0; time = 0; count = 1 }) (record { index = 0; what = record { number = 3; application = 0; path = 0; kind = 0; source = 0x1234; carrier = 2; signal = Digital 3 1 } } ∷ []);
-      closing = closing;
-      revision = record { version = 5; number = 0; last = 0 };
-    }
+-- what a section of version 5, 0 of 0, for map 0 reads as
+abbrev said : Table → Structure → List Descriptor → Content
+said t structure closing =
+    record { table = t; map = 0; structure = structure; closing = closing; revision = record { version = 5; number = 0; last = 0 } }
+
+-- the record of C9, with or without lists behind the records
+abbrev c9Channels : (included : ℕ) → Structure
+c9Channels included =
+    channels (record { included = included; splice = 0; time = 0; count = 1 })
+    (record { index = 0; what = record { number = 3; application = 0; path = 0; kind = 0; source = 0x1234; carrier = 2; signal = Digital 3 1 } } ∷ [])
 
 abbrev carriersPlain : List ℕ
 carriersPlain = hex "C2 30 13 00 01 01 01 02 80 30 81 C8 00 93 03 E5 00 00 74 9E FB E2"
@@ -48,7 +50,7 @@ abbrev modesPlain : List ℕ
 modesPlain = hex "C2 30 14 00 01 01 02 2F 08 00 4D 29 AD 00 93 03 E5 00 00 CE 5B B1 EE"
 
 abbrev modesGrown : List ℕ
-modesGrown = hex "C2 10 1C 00 01 01 02 2F 08 00 4D 29 AD 01 80 03 AA BB CC 93 03 E5 00 00 81 01 01 3E 66 9E A1"
+modesGrown = hex "C2 10 1D 00 01 01 02 2F 08 00 4D 29 AD 01 80 03 AA BB CC 93 04 45 00 00 77 81 01 01 4F 11 24 AA"
 
 abbrev rangesPlain : List ℕ
 rangesPlain = hex "C4 30 13 00 01 00 00 00 02 03 83 05 81 93 03 E5 00 00 90 74 69 2E"
@@ -60,13 +62,13 @@ abbrev channelsPlain : List ℕ
 channelsPlain = hex "C4 30 1D 00 00 00 00 00 00 00 00 00 00 01 00 03 00 12 34 02 00 03 01 93 03 E5 00 00 43 E6 31 47"
 
 abbrev channelsGrown : List ℕ
-channelsGrown = hex "C4 30 23 00 00 00 00 00 00 00 00 00 00 01 00 03 00 12 34 02 00 03 01 80 00 80 01 AA 93 04 E5 00 00 FF FC 57 77 66"
+channelsGrown = hex "C4 00 23 00 00 00 00 00 00 00 00 00 00 01 00 03 00 12 34 02 00 03 01 80 00 80 01 AA 93 04 25 00 00 FF 23 E1 2E C3"
 
 abbrev includedPlain : List ℕ
-includedPlain = hex "C4 30 24 00 00 00 00 20 00 00 00 00 00 01 00 03 00 12 34 02 00 03 01 01 80 01 AA 81 01 01 93 03 E5 00 00 00 26 34 92"
+includedPlain = hex "C4 30 27 00 00 00 00 20 00 00 00 00 00 01 00 03 00 12 34 02 00 03 01 01 94 04 FC 03 FC 01 81 01 01 93 03 E5 00 00 E0 06 CD 53"
 
 abbrev includedGrown : List ℕ
-includedGrown = hex "C4 00 2C 00 00 00 00 20 00 00 00 00 00 01 00 03 00 12 34 02 00 03 01 03 82 00 80 01 AA 93 02 00 00 81 01 01 82 00 93 03 05 00 00 C0 1C 90 E1"
+includedGrown = hex "C4 00 32 00 00 00 00 20 00 00 00 00 00 01 00 03 00 12 34 02 00 03 01 03 82 00 94 04 00 03 00 01 93 02 00 00 81 02 FF 01 82 00 93 05 05 00 00 01 02 E9 52 39 33"
 
 pub carriers-grow : Grown carriersPlain carriersGrown
 unfolding computed
@@ -74,13 +76,39 @@ carriers-grow =
     record {
       content = c1Content (d 0x93 "E5 00 00" ∷ []) (record { version = 5; number = 0; last = 0 });
       reads = refl;
-      before = record { number = 0xC2; flags = 0x30; low = 0x13; front = hex "00 01 01 01"; pieces = (p "02 80 30 81 C8" [] ∷ []); closing = (d 0x93 "E5 00 00" ∷ []) };
-      after = record { number = 0xC2; flags = 0x00; low = 0x20; front = hex "00 01 01 01"; pieces = (p "02 80 30 81 C8" (d 0x93 "" ∷ d 0x80 "AA" ∷ []) ∷ []); closing = (d 0x81 "" ∷ d 0x93 "05 00 00 AA BB" ∷ d 0xC0 "01 02" ∷ []) };
+      before =
+          record {
+            number = 0xC2;
+            flags = 0x30;
+            low = 0x13;
+            front = hex "00 01 01 01";
+            pieces = p "02 80 30 81 C8" [] ∷ [];
+            closing = d 0x93 "E5 00 00" ∷ [];
+          };
+      after =
+          record {
+            number = 0xC2;
+            flags = 0x00;
+            low = 0x20;
+            front = hex "00 01 01 01";
+            pieces = p "02 80 30 81 C8" (d 0x93 "" ∷ d 0x80 "AA" ∷ []) ∷ [];
+            closing = d 0x81 "" ∷ d 0x93 "05 00 00 AA BB" ∷ d 0xC0 "01 02" ∷ [];
+          };
       was = refl;
       is = refl;
       shaped = record { front = refl; sized = (refl, λ e. absurd (differ e), tt); count = refl };
       reshaped = record { front = refl; sized = (refl, λ e. absurd (differ e), tt); count = refl };
-      grows = record { number = refl; zeros = refl; front = refl; pieces = next refl (FullerList.added (d 0x93 "") (FullerList.added (d 0x80 "AA") FullerList.empty)) end; closing = added (d 0x81 "") (λ e. omega (arith, e)) (revised {d = d 0x93 "E5 00 00"} {e = d 0x93 "05 00 00 AA BB"} (record { was = refl; is = refl; long = omega arith; version = refl; more = hex "AA BB"; rest = refl }) (added (d 0xC0 "01 02") (λ e. omega (arith, e)) empty)) };
+      grows =
+          record {
+            number = refl;
+            zeros = refl;
+            front = refl;
+            pieces = next refl (FullerList.added (d 0x93 "") (FullerList.added (d 0x80 "AA") FullerList.empty)) end;
+            closing =
+                added (d 0x81 "") (λ e. omega (arith, e))
+                (revised {d = d 0x93 "E5 00 00"} (record { was = refl; is = refl; long = omega arith; version = refl; more = hex "AA BB"; rest = refl })
+                (added (d 0xC0 "01 02") (λ e. omega (arith, e)) empty));
+          };
       fits = refl;
       crc = refl;
     }
@@ -89,15 +117,40 @@ pub modes-grow : Grown modesPlain modesGrown
 unfolding computed
 modes-grow =
     record {
-      content = record { table = Mms; map = 0; structure = modes 1 (record { index = 1; what = c12Mode } ∷ []); closing = d 0x93 "E5 00 00" ∷ []; revision = record { version = 5; number = 0; last = 0 } };
+      content = said Mms (modes 1 (record { index = 1; what = c12Mode } ∷ [])) (d 0x93 "E5 00 00" ∷ []);
       reads = refl;
-      before = record { number = 0xC2; flags = 0x30; low = 0x14; front = hex "00 01 01 02"; pieces = (p "2F 08 00 4D 29 AD" [] ∷ []); closing = (d 0x93 "E5 00 00" ∷ []) };
-      after = record { number = 0xC2; flags = 0x10; low = 0x1C; front = hex "00 01 01 02"; pieces = (p "2F 08 00 4D 29 AD" (d 0x80 "AA BB CC" ∷ []) ∷ []); closing = (d 0x93 "E5 00 00" ∷ d 0x81 "01" ∷ []) };
+      before =
+          record {
+            number = 0xC2;
+            flags = 0x30;
+            low = 0x14;
+            front = hex "00 01 01 02";
+            pieces = p "2F 08 00 4D 29 AD" [] ∷ [];
+            closing = d 0x93 "E5 00 00" ∷ [];
+          };
+      after =
+          record {
+            number = 0xC2;
+            flags = 0x10;
+            low = 0x1D;
+            front = hex "00 01 01 02";
+            pieces = p "2F 08 00 4D 29 AD" (d 0x80 "AA BB CC" ∷ []) ∷ [];
+            closing = d 0x93 "45 00 00 77" ∷ d 0x81 "01" ∷ [];
+          };
       was = refl;
       is = refl;
       shaped = record { front = refl; sized = (refl, λ e. absurd (differ e), tt); count = refl };
       reshaped = record { front = refl; sized = (refl, λ e. absurd (differ e), tt); count = refl };
-      grows = record { number = refl; zeros = refl; front = refl; pieces = next refl (FullerList.added (d 0x80 "AA BB CC") FullerList.empty) end; closing = stays (d 0x93 "E5 00 00") (added (d 0x81 "01") (λ e. omega (arith, e)) empty) };
+      grows =
+          record {
+            number = refl;
+            zeros = refl;
+            front = refl;
+            pieces = next refl (FullerList.added (d 0x80 "AA BB CC") FullerList.empty) end;
+            closing =
+                revised {d = d 0x93 "E5 00 00"} (record { was = refl; is = refl; long = omega arith; version = refl; more = hex "77"; rest = refl })
+                (added (d 0x81 "01") (λ e. omega (arith, e)) empty);
+          };
       fits = refl;
       crc = refl;
     }
@@ -106,15 +159,40 @@ pub ranges-grow : Grown rangesPlain rangesGrown
 unfolding computed
 ranges-grow =
     record {
-      content = record { table = Dcm; map = 0; structure = ranges (record { first = 2; length = 3 }) c7Ranges; closing = d 0x93 "E5 00 00" ∷ []; revision = record { version = 5; number = 0; last = 0 } };
+      content = said Dcm (ranges (record { first = 2; length = 3 }) c7Ranges) (d 0x93 "E5 00 00" ∷ []);
       reads = refl;
-      before = record { number = 0xC4; flags = 0x30; low = 0x13; front = hex "00 01 00 00 00 02 03"; pieces = (p "83" [] ∷ p "05" [] ∷ p "81" [] ∷ []); closing = (d 0x93 "E5 00 00" ∷ []) };
-      after = record { number = 0xC4; flags = 0x20; low = 0x17; front = hex "00 01 00 00 00 02 03"; pieces = (p "83" [] ∷ p "05" [] ∷ p "81" [] ∷ []); closing = (d 0x80 "AA" ∷ d 0x93 "65 00 00 01" ∷ []) };
+      before =
+          record {
+            number = 0xC4;
+            flags = 0x30;
+            low = 0x13;
+            front = hex "00 01 00 00 00 02 03";
+            pieces = p "83" [] ∷ p "05" [] ∷ p "81" [] ∷ [];
+            closing = d 0x93 "E5 00 00" ∷ [];
+          };
+      after =
+          record {
+            number = 0xC4;
+            flags = 0x20;
+            low = 0x17;
+            front = hex "00 01 00 00 00 02 03";
+            pieces = p "83" [] ∷ p "05" [] ∷ p "81" [] ∷ [];
+            closing = d 0x80 "AA" ∷ d 0x93 "65 00 00 01" ∷ [];
+          };
       was = refl;
       is = refl;
       shaped = record { front = refl; sized = (refl, λ e. refl, (refl, λ e. refl, (refl, λ e. refl, tt))); count = refl };
       reshaped = record { front = refl; sized = (refl, λ e. refl, (refl, λ e. refl, (refl, λ e. refl, tt))); count = refl };
-      grows = record { number = refl; zeros = refl; front = refl; pieces = next refl FullerList.empty (next refl FullerList.empty (next refl FullerList.empty end)); closing = added (d 0x80 "AA") (λ e. omega (arith, e)) (revised {d = d 0x93 "E5 00 00"} {e = d 0x93 "65 00 00 01"} (record { was = refl; is = refl; long = omega arith; version = refl; more = hex "01"; rest = refl }) empty) };
+      grows =
+          record {
+            number = refl;
+            zeros = refl;
+            front = refl;
+            pieces = next refl FullerList.empty (next refl FullerList.empty (next refl FullerList.empty end));
+            closing =
+                added (d 0x80 "AA") (λ e. omega (arith, e))
+                (revised {d = d 0x93 "E5 00 00"} (record { was = refl; is = refl; long = omega arith; version = refl; more = hex "01"; rest = refl }) empty);
+          };
       fits = refl;
       crc = refl;
     }
@@ -123,15 +201,41 @@ pub channels-grow : Grown channelsPlain channelsGrown
 unfolding computed
 channels-grow =
     record {
-      content = c9Content 0 (d 0x93 "E5 00 00" ∷ []);
+      content = said Vcm (c9Channels 0) (d 0x93 "E5 00 00" ∷ []);
       reads = refl;
-      before = record { number = 0xC4; flags = 0x30; low = 0x1D; front = hex "00 00 00 00 00 00 00 00 00 00 01"; pieces = (p "00 03 00 12 34 02 00 03 01" [] ∷ []); closing = (d 0x93 "E5 00 00" ∷ []) };
-      after = record { number = 0xC4; flags = 0x30; low = 0x23; front = hex "00 00 00 00 00 00 00 00 00 00 01"; pieces = (p "00 03 00 12 34 02 00 03 01" [] ∷ []); closing = (d 0x80 "" ∷ d 0x80 "AA" ∷ d 0x93 "E5 00 00 FF" ∷ []) };
+      before =
+          record {
+            number = 0xC4;
+            flags = 0x30;
+            low = 0x1D;
+            front = hex "00 00 00 00 00 00 00 00 00 00 01";
+            pieces = p "00 03 00 12 34 02 00 03 01" [] ∷ [];
+            closing = d 0x93 "E5 00 00" ∷ [];
+          };
+      after =
+          record {
+            number = 0xC4;
+            flags = 0x00;
+            low = 0x23;
+            front = hex "00 00 00 00 00 00 00 00 00 00 01";
+            pieces = p "00 03 00 12 34 02 00 03 01" [] ∷ [];
+            closing = d 0x80 "" ∷ d 0x80 "AA" ∷ d 0x93 "25 00 00 FF" ∷ [];
+          };
       was = refl;
       is = refl;
       shaped = record { front = refl; sized = (refl, λ e. refl, tt); count = refl };
       reshaped = record { front = refl; sized = (refl, λ e. refl, tt); count = refl };
-      grows = record { number = refl; zeros = refl; front = refl; pieces = next refl FullerList.empty end; closing = added (d 0x80 "") (λ e. omega (arith, e)) (added (d 0x80 "AA") (λ e. omega (arith, e)) (revised {d = d 0x93 "E5 00 00"} {e = d 0x93 "E5 00 00 FF"} (record { was = refl; is = refl; long = omega arith; version = refl; more = hex "FF"; rest = refl }) empty)) };
+      grows =
+          record {
+            number = refl;
+            zeros = refl;
+            front = refl;
+            pieces = next refl FullerList.empty end;
+            closing =
+                added (d 0x80 "") (λ e. omega (arith, e))
+                (added (d 0x80 "AA") (λ e. omega (arith, e))
+                (revised {d = d 0x93 "E5 00 00"} (record { was = refl; is = refl; long = omega arith; version = refl; more = hex "FF"; rest = refl }) empty));
+          };
       fits = refl;
       crc = refl;
     }
@@ -140,15 +244,41 @@ pub included-grow : Grown includedPlain includedGrown
 unfolding computed
 included-grow =
     record {
-      content = c9Content 1 (d 0x81 "01" ∷ d 0x93 "E5 00 00" ∷ []);
+      content = said Vcm (c9Channels 1) (d 0x81 "01" ∷ d 0x93 "E5 00 00" ∷ []);
       reads = refl;
-      before = record { number = 0xC4; flags = 0x30; low = 0x24; front = hex "00 00 00 00 20 00 00 00 00 00 01"; pieces = (p "00 03 00 12 34 02 00 03 01" (d 0x80 "AA" ∷ []) ∷ []); closing = (d 0x81 "01" ∷ d 0x93 "E5 00 00" ∷ []) };
-      after = record { number = 0xC4; flags = 0x00; low = 0x2C; front = hex "00 00 00 00 20 00 00 00 00 00 01"; pieces = (p "00 03 00 12 34 02 00 03 01" (d 0x82 "" ∷ d 0x80 "AA" ∷ d 0x93 "00 00" ∷ []) ∷ []); closing = (d 0x81 "01" ∷ d 0x82 "" ∷ d 0x93 "05 00 00" ∷ []) };
+      before =
+          record {
+            number = 0xC4;
+            flags = 0x30;
+            low = 0x27;
+            front = hex "00 00 00 00 20 00 00 00 00 00 01";
+            pieces = p "00 03 00 12 34 02 00 03 01" (d 0x94 "FC 03 FC 01" ∷ []) ∷ [];
+            closing = d 0x81 "01" ∷ d 0x93 "E5 00 00" ∷ [];
+          };
+      after =
+          record {
+            number = 0xC4;
+            flags = 0x00;
+            low = 0x32;
+            front = hex "00 00 00 00 20 00 00 00 00 00 01";
+            pieces = p "00 03 00 12 34 02 00 03 01" (d 0x82 "" ∷ d 0x94 "00 03 00 01" ∷ d 0x93 "00 00" ∷ []) ∷ [];
+            closing = d 0x81 "FF 01" ∷ d 0x82 "" ∷ d 0x93 "05 00 00 01 02" ∷ [];
+          };
       was = refl;
       is = refl;
       shaped = record { front = refl; sized = (refl, λ e. absurd (differ e), tt); count = refl };
       reshaped = record { front = refl; sized = (refl, λ e. absurd (differ e), tt); count = refl };
-      grows = record { number = refl; zeros = refl; front = refl; pieces = next refl (FullerList.added (d 0x82 "") (FullerList.stays (d 0x80 "AA") (FullerList.added (d 0x93 "00 00") FullerList.empty))) end; closing = stays (d 0x81 "01") (added (d 0x82 "") (λ e. omega (arith, e)) (revised {d = d 0x93 "E5 00 00"} {e = d 0x93 "05 00 00"} (record { was = refl; is = refl; long = omega arith; version = refl; more = []; rest = refl }) empty)) };
+      grows =
+          record {
+            number = refl;
+            zeros = refl;
+            front = refl;
+            pieces = next refl (FullerList.added (d 0x82 "") (FullerList.stays refl (FullerList.added (d 0x93 "00 00") FullerList.empty))) end;
+            closing =
+                other {d = d 0x81 "01"} (λ e. omega (arith, e)) refl
+                (added (d 0x82 "") (λ e. omega (arith, e))
+                (revised {d = d 0x93 "E5 00 00"} (record { was = refl; is = refl; long = omega arith; version = refl; more = hex "01 02"; rest = refl }) empty));
+          };
       fits = refl;
       crc = refl;
     }
@@ -158,8 +288,19 @@ abbrev grownPlant : List (List ℕ)
 grownPlant = carriersGrown ∷ modesGrown ∷ rangesGrown ∷ channelsGrown ∷ []
 
 pub plant-grows : GrownRun examplePlant grownPlant
-plant-grows = Growth.grown carriers-grow (Growth.grown modes-grow (Growth.grown ranges-grow (Growth.grown channels-grow Growth.end)))
+plant-grows = grown carriers-grow (grown modes-grow (grown ranges-grow (grown channels-grow Growth.GrownRun.end)))
 
--- so that the grown plant prints the paper's digital line too, without being computed again
-pub grown-printed-so : printedOf (freshBox 0) grownPlant ≡ printedOf (freshBox 0) examplePlant
-grown-printed-so = grown-printed (freshBox 0) plant-grows
+-- so that `lineup` prints the paper's digital line of the grown plant too: nothing of it is computed again but where its sections end
+example-input : lineup (hex "00 00" ++ flatten examplePlant) ≡ printedOf (freshBox 0) examplePlant
+unfolding lineup sectionsOf cut lengthOf byte from flatten hex
+example-input = refl
+
+grown-input : lineup (hex "00 00" ++ flatten grownPlant) ≡ printedOf (freshBox 0) grownPlant
+unfolding lineup sectionsOf cut lengthOf byte from flatten hex
+grown-input = refl
+
+pub grown-digital :
+    lineup (hex "00 00" ++ flatten grownPlant)
+    ≡ text "lineup=1\nmap=0\nsections=4\nrefused=0\ncds=5\nmms=5\nvcm=5\ndcm=5\nchannels=1\n"
+    ++ text "channel=3 kind=digital hidden=0 path=0 khz=63000 program=3 system=2 inner=15 split=0 format=8 symbols=5056941\n"
+grown-digital = grown-input ∙ grown-printed (freshBox 0) plant-grows ∙ sym example-input ∙ printed .digital

@@ -10,7 +10,7 @@ use lib.Seq.{take-at, drop-at}
 use Rattle.rules.specs.Bytes.{got, from}
 use Rattle.rules.specs.Descriptors.{Descriptor, descriptor, closing}
 use Rattle.rules.specs.Section.{Content}
-use Rattle.rules.specs.Growth.{FullerList, GrownRevision, GrownClosing, empty, stays, added, revised, Piece, Parts, shape, Sized, Shaped, encoded, pieceBytes, area, bytesOf, FullerPieces, end, next, GrownParts, Grown}
+use Rattle.rules.specs.Growth.{FullerList, GrownRevision, GrownClosing, empty, stays, added, other, revised, Piece, Parts, shape, Sized, Shaped, encoded, pieceBytes, area, bytesOf, FullerPieces, end, next, GrownParts, Grown}
 use Rattle.rules.specs.declared.Table.{Table}
 use Rattle.rules.proofs.Right.{one-right}
 use Rattle.rules.proofs.Encoded.{descriptor-encoded, closing-encoded}
@@ -21,8 +21,8 @@ use Rattle.rules.proofs.Grown.{grown-reads}
 
 list-again : {ds es fs : List Descriptor} → FullerList ds es → FullerList es fs → FullerList ds fs
 list-again p empty = p
-list-again (stays d p) (stays _ q) = stays d (list-again p q)
-list-again (added d p) (stays _ q) = added d (list-again p q)
+list-again (stays a p) (stays b q) = stays (b ∙ a) (list-again p q)
+list-again (added d p) (stays {e = e} b q) = added e (list-again p q)
 list-again p (added d q) = added d (list-again p q)
 
 pieces-again : {ps qs rs : List Piece} → FullerPieces ps qs → FullerPieces qs rs → FullerPieces ps rs
@@ -48,6 +48,12 @@ closing-again (added d n p) (stays _ q) = added d n (closing-again p q)
 closing-again (revised r p) (stays _ q) = revised r (closing-again p q)
 closing-again (stays d p) (revised r q) = revised r (closing-again p q)
 closing-again (added d n p) (revised r q) = absurd (n (r .was))
+closing-again (other n t p) (stays _ q) = other n t (closing-again p q)
+closing-again (stays d p) (other n t q) = other n t (closing-again p q)
+closing-again (added d m p) (other {e = e} n t q) = added e (λ h. m (sym t ∙ h)) (closing-again p q)
+closing-again (other n t p) (other m u q) = other n (u ∙ t) (closing-again p q)
+closing-again (revised r p) (other n t q) = absurd (n (r .is))
+closing-again (other n t p) (revised r q) = absurd (n (sym t ∙ r .was))
 closing-again (revised {d = d} {e = e} r p) (revised {e = f} t q) = revised (revision-again d e f r t) (closing-again p q)
 
 -- ---- bytes have one set of parts

@@ -25,7 +25,7 @@ use Rattle.rules.proofs.Grown.{laid}
 
 list-itself : (ds : List Descriptor) → FullerList ds ds
 list-itself [] = empty
-list-itself (d ∷ ds) = stays d (list-itself ds)
+list-itself (d ∷ ds) = stays refl (list-itself ds)
 
 closing-itself : (ds : List Descriptor) → GrownClosing ds ds
 closing-itself [] = empty

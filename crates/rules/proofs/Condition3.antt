@@ -21,7 +21,7 @@ use Rattle.rules.proofs.GoingLive.{Checked}
 use Rattle.rules.proofs.GrownRuns.{SameRun, grown-run, grown-printed}
 use Rattle.rules.proofs.Apart.{grown-itself}
 use Rattle.rules.proofs.Again.{grown-again}
-use Rattle.rules.proofs.GrownAsking.{told, body, NotAdded, same-told, SameRevision, revision-told}
+use Rattle.rules.proofs.GrownAsking.{told, body, Untouched, same-told, SameRevision, revision-told}
 
 -- a section passes checks 3, 4 and 5, and has a protocol version other than 0
 pub record OtherProtocol (section : List ℕ) : Type 0 where
@@ -61,7 +61,7 @@ pub record Condition3 : Type 0 where
   pub protocol-offered : (b : Box) (section : List ℕ) → Checked b → OtherProtocol section → answerTo b section ≡ Refused 6
   -- document 01, of the question for a descriptor: "it covers only tags that growth didn't add, and for 0x93 the first three body bytes
   -- without their reserved bits"
-  pub same-descriptor : (tag : ℕ) (s g : List ℕ) (w : Grown s g) → (tag ≡ revisionTag → ⊥) → NotAdded tag (w .grows .closing) → told g (ask tag g) ≡ told s (ask tag s)
+  pub same-descriptor : (tag : ℕ) (s g : List ℕ) (w : Grown s g) → (tag ≡ revisionTag → ⊥) → Untouched tag (w .grows .closing) → told g (ask tag g) ≡ told s (ask tag s)
   pub same-revision : (s g : List ℕ) (w : Grown s g)
       → (x : List ℕ) × (y : List ℕ) × (told s (ask revisionTag s) ≡ body x) × (told g (ask revisionTag g) ≡ body y) × SameRevision x y
 

@@ -15,7 +15,7 @@ use Rattle.rules.specs.Descriptors.{Descriptor, closing, bodies}
 use Rattle.rules.specs.Layout.{Layout, Numbered, numbered, bare, records, head}
 use Rattle.rules.specs.Tables.{cds, mms, vcmHead, vcm, dcmHead, dcm}
 use Rattle.rules.specs.Section.{Structure, carriers, modes, channels, ranges, structure, mediumAt, given, headerWhole, header, mapOf, revisionTag, revision, Content, contentOf, content, withoutCrc, right, readSection}
-use Rattle.rules.specs.Growth.{Piece, Parts, shape, Sized, Shaped, encoded, area, bytesOf, FullerPieces, GrownRevision, GrownClosing, GrownParts, Grown, empty, stays, added, revised}
+use Rattle.rules.specs.Growth.{Piece, Parts, shape, Sized, Shaped, encoded, area, bytesOf, FullerPieces, GrownRevision, GrownClosing, GrownParts, Grown, empty, stays, added, other, revised}
 use Rattle.rules.specs.declared.VcmHead.{VcmHead}
 use Rattle.rules.specs.declared.DcmHead.{DcmHead}
 use Rattle.rules.specs.declared.Table.{Table}
@@ -184,7 +184,8 @@ bodies-alike (stays {ds} {es} d g) = go (eqb (d .tag) revisionTag) (bodies-alike
     go : (t : Bool) → SameBodies (bodies revisionTag ds) (bodies revisionTag es) → SameBodies (cond t (d .body ∷ bodies revisionTag ds) (bodies revisionTag ds)) (cond t (d .body ∷ bodies revisionTag es) (bodies revisionTag es))
     go true a = one refl a
     go false a = a
-bodies-alike (added d other g) = rw (ne-eqb (d .tag) revisionTag other) (bodies-alike g)
+bodies-alike (added d n g) = rw (ne-eqb (d .tag) revisionTag n) (bodies-alike g)
+bodies-alike (other {d = d} {e = e} n t g) = rw (ne-eqb (d .tag) revisionTag n, ne-eqb (e .tag) revisionTag (λ h. n (sym t ∙ h))) (bodies-alike g)
 bodies-alike (revised {ds} {es} {d} {e} r g) = rw (r .was, r .is) (one (revised-same d e r) (bodies-alike g))
 
 -- ---- the content

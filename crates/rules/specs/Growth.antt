@@ -1,7 +1,7 @@
 -- Condition 3 of the tender: what it is to grow a section that reads right. "Descriptors with tags the box doesn't know put into
 -- lists the section has, bytes added at the end of the revision descriptor, reserved bits set anyhow, with lengths, counts and CRC put
--- right", and no section passes 1,024 bytes. Of bytes no length or count passes its field; that they are bytes is not asked for here,
--- so what is proved of growth is proved of more than can be sent.
+-- right", and no section passes 1,024 bytes. The tender also asks that no length or count passes its field. One above 255 is no byte, so no
+-- section that can be sent has one; here numbers need not be bytes, and the theorems hold of more than can be sent.
 use Prim.Native.Nat.{ℕ, _+_, _/_, _%_, _≤_}
 use mathlib.Core.Path.{_≡_}
 use mathlib.Core.Bool.{Bool, true, false}
@@ -17,10 +17,11 @@ use Rattle.rules.specs.declared.Table.the-variants.{Cds, Mms, Vcm, Dcm}
 
 -- ---- "descriptors .. put into lists the section has"
 
--- into a record's list: of any tag, and anywhere
+-- into a record's list: of any tag, and anywhere. One that was there keeps its tag; whatever bits its body reserves are set anyhow, and
+-- since the box knows no tag here its body may be any
 pub data FullerList : (before after : List Descriptor) → Type 0 where
   empty : FullerList [] []
-  stays : {ds es : List Descriptor} (d : Descriptor) → FullerList ds es → FullerList (d ∷ ds) (d ∷ es)
+  stays : {ds es : List Descriptor} {d e : Descriptor} → e .tag ≡ d .tag → FullerList ds es → FullerList (d ∷ ds) (e ∷ es)
   added : {ds es : List Descriptor} (d : Descriptor) → FullerList ds es → FullerList ds (d ∷ es)
 
 -- "bytes added at the end of the revision descriptor, reserved bits set anyhow": its number and last stay, and its version
@@ -32,11 +33,13 @@ pub record GrownRevision (d e : Descriptor) : Type 0 where
   pub more : List ℕ
   pub rest : from (e .body) 1 ≡ from (d .body) 1 ++ more
 
--- into the closing list: of any tag but the revision's, and anywhere
+-- into the closing list: of any tag but the revision's, and anywhere. One that was there stays; or, of a tag that the box doesn't know,
+-- keeps its tag with any body, as above; or is the revision descriptor, grown
 pub data GrownClosing : (before after : List Descriptor) → Type 0 where
   empty : GrownClosing [] []
   stays : {ds es : List Descriptor} (d : Descriptor) → GrownClosing ds es → GrownClosing (d ∷ ds) (d ∷ es)
   added : {ds es : List Descriptor} (d : Descriptor) → (d .tag ≡ revisionTag → ⊥) → GrownClosing ds es → GrownClosing ds (d ∷ es)
+  other : {ds es : List Descriptor} {d e : Descriptor} → (d .tag ≡ revisionTag → ⊥) → e .tag ≡ d .tag → GrownClosing ds es → GrownClosing (d ∷ ds) (e ∷ es)
   revised : {ds es : List Descriptor} {d e : Descriptor} → GrownRevision d e → GrownClosing ds es → GrownClosing (d ∷ ds) (e ∷ es)
 
 -- ---- a section in its parts
