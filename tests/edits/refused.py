@@ -8,7 +8,10 @@ An edit of crates/NAME/must-fail holds one or more wrong answers, each under a l
 and followed by its replacements. rt must-fail asks that the prover refuses the edited crate as a whole. Here WHERE says what
 must have refused this answer: of code a function (or several), whose own proof must have a part that is no longer a proof; of the rules
 a theorem, or a part of one as THEOREM.PART. A declaration that was refused only because it rests on one that was refused doesn't
-count. Run it behind rt ci or rt must-fail, in the repository's root.
+count, and nor does one that names something which isn't there. Of one edit no two answers name the same place.
+
+It also holds docs/PROMISES.md to the tree: every label is named there, and how many there are; and every public function has its
+theorem in proofs/Determined.antt. Run it behind rt ci or rt must-fail, in the repository's root.
 """
 import pathlib
 import re
@@ -16,7 +19,8 @@ import sys
 
 WRONG = re.compile(r"wrong ([a-z0-9_]+): ([^:]+(?:::[^:]+)*): (.+)")
 ERROR = re.compile(r"^(\S+):(\d+):\d+: error: `([^`]+)`: (.*)$")
-FOLLOWS = re.compile(r"`[^`]+` (?:was not admitted|cannot be unfolded because it was not admitted)")
+FOLLOWS = re.compile(r"`[^`]+` (?:was not admitted|cannot be unfolded because it was not admitted)|.*is not in scope")
+PUBLIC = re.compile(r'^pub (?:extern "C" )?fn (\w+)', re.MULTILINE)
 
 
 def fail(text):
@@ -24,9 +28,9 @@ def fail(text):
     sys.exit(1)
 
 
-def wrong_answers(edit):
-    """The wrong answers of an edit: label and where it must be refused."""
-    answers, pairs = [], 0
+def wrong_answers(edit, copy):
+    """The wrong answers of an edit: label and where each must be refused. What they write must stand in the crate that was tried."""
+    answers, pairs, file = [], 0, None
     for line in edit.read_text(encoding="utf-8").splitlines():
         if line.startswith("wrong "):
             found = WRONG.fullmatch(line)
@@ -36,22 +40,29 @@ def wrong_answers(edit):
                 fail(f"{edit}: {answers[-1][0]} replaces nothing")
             answers.append((found[1], [w.strip() for w in found[2].split(",")]))
             pairs = 0
+        elif line.startswith("file: "):
+            file = copy / line[len("file: ") :]
         elif line.startswith("new:"):
             if not answers:
                 fail(f"{edit}: a replacement before the first 'wrong' line")
+            if line[len("new:") :].removeprefix(" ") not in file.read_text(encoding="utf-8"):
+                fail(f"{edit} is not what was tried: {file} has no '{line[5:]}' (run rt must-fail again)")
             pairs += 1
     if not answers or not pairs:
         fail(f"{edit}: no wrong answer, or one that replaces nothing")
+    places = [place for _, named in answers for place in named]
+    if len(places) != len(set(places)):
+        fail(f"{edit}: two wrong answers name the same place")
     return answers
 
 
-def refusals(log, where):
+def refusals(log, copy):
     """What was refused on its own account: (file below the crate, line, declaration)."""
     found = []
     for line in log.read_text(encoding="utf-8").splitlines():
         error = ERROR.match(line)
-        if error and error[1].startswith(str(where)) and not FOLLOWS.match(error[4]):
-            found.append((error[1][len(str(where)) + 1 :], int(error[2]), error[3]))
+        if error and error[1].startswith(str(copy)) and not FOLLOWS.match(error[4]):
+            found.append((error[1][len(str(copy)) + 1 :], int(error[2]), error[3]))
     return found
 
 
@@ -68,16 +79,60 @@ def refused_by_function(crate, function, found, log):
     )
 
 
-def refused_by_theorem(theorem, found, where):
-    """The theorem itself, and of THEOREM.PART a line that names the part."""
+def refused_by_theorem(theorem, found, copy):
+    """The theorem itself, and of THEOREM.PART a line that begins with the part."""
     name, _, part = theorem.partition(".")
     for file, line, declaration in found:
         if declaration != name:
             continue
-        text = (where / file).read_text(encoding="utf-8").splitlines()[line - 1]
+        text = (copy / file).read_text(encoding="utf-8").splitlines()[line - 1]
         if not part or re.match(rf"\s*{re.escape(part)} = ", text):
             return True
     return False
+
+
+def each_refused(root, edits):
+    """The labels, each with its crate."""
+    labels = []
+    for edit in edits:
+        crate = edit.parts[-3]
+        copy = root / "target" / "must-fail" / crate / edit.stem
+        log = copy / ".log"
+        if not log.is_file():
+            fail(f"{crate}/{edit.stem} was not tried: {log} is not there (run rt must-fail first)")
+        found = refusals(log, copy)
+        for label, places in wrong_answers(edit, copy):
+            if (crate, label) in labels:
+                fail(f"{crate}: two wrong answers are called {label}")
+            labels.append((crate, label))
+            for place in places:
+                if crate == "rules":
+                    refused = refused_by_theorem(place, found, copy)
+                else:
+                    refused = refused_by_function(crate, place, found, log)
+                if not refused:
+                    fail(f"{crate}/{label} was not refused by {place}: see {log}")
+    return labels
+
+
+def promised(root, labels, edits):
+    """docs/PROMISES.md names every label and says how many there are; every public function is determined."""
+    promises = (root / "docs" / "PROMISES.md").read_text(encoding="utf-8")
+    for crate, label in labels:
+        if f"`{label}`" not in promises:
+            fail(f"docs/PROMISES.md does not name {crate}/{label}")
+    if f"{len(labels)} of them, in {len(edits)} edits" not in promises:
+        fail(f"docs/PROMISES.md does not say '{len(labels)} of them, in {len(edits)} edits'")
+    functions = 0
+    for source in sorted(root.glob("crates/*/src/lib.rt")):
+        theorems = source.parent.parent / "proofs" / "Determined.antt"
+        for function in PUBLIC.findall(source.read_text(encoding="utf-8")):
+            if not theorems.is_file() or f"pub {function}-determined :" not in theorems.read_text(encoding="utf-8"):
+                fail(f"{theorems} has no {function}-determined")
+            functions += 1
+    if f"the {functions} public functions" not in promises:
+        fail(f"docs/PROMISES.md does not speak of 'the {functions} public functions'")
+    return functions
 
 
 def main():
@@ -85,27 +140,9 @@ def main():
     edits = sorted(root.glob("crates/*/must-fail/*.edit"))
     if not edits:
         fail("no must-fail edits here: run it in the repository's root")
-    labels, count = set(), 0
-    for edit in edits:
-        crate = edit.parts[-3]
-        where = root / "target" / "must-fail" / crate / edit.stem
-        log = where / ".log"
-        if not log.is_file():
-            fail(f"{crate}/{edit.stem} was not tried: {log} is not there (run rt must-fail first)")
-        found = refusals(log, where)
-        for label, places in wrong_answers(edit):
-            if (crate, label) in labels:
-                fail(f"{crate}: two wrong answers are called {label}")
-            labels.add((crate, label))
-            for place in places:
-                if crate == "rules":
-                    refused = refused_by_theorem(place, found, where)
-                else:
-                    refused = refused_by_function(crate, place, found, log)
-                if not refused:
-                    fail(f"{crate}/{label} was not refused by {place}: see {log}")
-            count += 1
-    print(f"tests/edits: {count} wrong answers in {len(edits)} edits, each refused where it should be")
+    labels = each_refused(root, edits)
+    functions = promised(root, labels, edits)
+    print(f"tests/edits: {len(labels)} wrong answers in {len(edits)} edits, each refused where it should be; {functions} functions determined")
 
 
 main()

@@ -19,7 +19,7 @@ use Rattle.rules.proofs.Hex.{hex}
 use Rattle.rules.proofs.Computed.{computed}
 use Rattle.rules.proofs.Taken.{differ}
 use Rattle.rules.proofs.Examples.{c1Content, c7Ranges, c12Mode}
-use Rattle.rules.proofs.GrownRuns.{grown-printed}
+use Rattle.rules.proofs.SameRuns.{grown-printed}
 use Rattle.examples.proofs.Printed.{examplePlant, printed}
 
 -- a descriptor, and a record with its list

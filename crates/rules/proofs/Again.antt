@@ -14,7 +14,7 @@ use Rattle.rules.specs.Growth.{FullerList, GrownRevision, GrownClosing, 
 use Rattle.rules.specs.declared.Table.{Table}
 use Rattle.rules.proofs.Right.{one-right}
 use Rattle.rules.proofs.Encoded.{descriptor-encoded, closing-encoded}
-use Rattle.rules.proofs.Apart.{head-shape}
+use Rattle.rules.proofs.Parted.{head-shape}
 use Rattle.rules.proofs.Grown.{grown-reads}
 
 -- ---- growth upon growth

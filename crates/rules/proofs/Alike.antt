@@ -11,7 +11,7 @@ use lib.ListN.{length}
 use lib.Dec.{leb, eqb}
 use borrow.Author.Tests.{eqb-true, eqb-false, eq-eqb}
 use Rattle.rules.specs.Section.{Structure, Content, Reading, wrong, right, readSection}
-use Rattle.rules.specs.Holding.{limitOf, indexOf, placeOf, sectionAt, storeSize, holdingOf, liveAt, gatheredAt, noneGathered, holds, allOf, holdingFormed, wellFormed, heldWith, goneLive, gathering, stepOf, otherMap, offeredAs, offered, takesIn, Box, answerTo, boxAfter}
+use Rattle.rules.specs.Holding.{limitOf, indexOf, placeOf, sectionAt, storeSize, holdingOf, liveAt, noneGathered, holds, allOf, holdingFormed, wellFormed, heldWith, goneLive, gathering, stepOf, otherMap, offeredAs, offered, takesIn, Box, answerTo, boxAfter}
 use Rattle.rules.specs.Tuning.{allLive, liveCount, liveReading, readsAs, every, placeReads, tableReads, allRead, carriersIn, modesIn, channelsIn, rangesIn, recordsIn, liveSection, liveRecords, plant, needs, lookUp, tune}
 use Rattle.rules.specs.Growth.{Grown, same}
 use Rattle.rules.specs.declared.Table.{Table}
@@ -24,11 +24,11 @@ use Rattle.rules.proofs.Right.{one-right}
 use Rattle.rules.proofs.Taken.{differ}
 use Rattle.rules.proofs.Held.{holds-all}
 use Rattle.rules.proofs.Steps.{formed, held-before, Taking, taken-cases}
-use Rattle.rules.proofs.Store.{same-index, same-section}
-use Rattle.rules.proofs.Offers.{same-table, table-formed, TakenIn, taken-in, untouched, limit-kept, formed-kept, others-kept, step-holds, length-kept, place-kept}
+use Rattle.rules.proofs.Offers.{same-table, table-formed, TakenIn, taken-in, untouched, limit-kept, formed-kept, others-kept, step-holds, length-kept}
 use Rattle.rules.proofs.LiveRecords.{same-sections}
 use Rattle.rules.proofs.LivePlaces.{live-says}
-use Rattle.rules.proofs.Faithful.{live-low, gathered-low, gathered-named, section-placed}
+use Rattle.rules.proofs.Faithful.{live-low, gathered-low, gathered-named}
+use Rattle.rules.proofs.Placed.{isPlace, place-after}
 use Rattle.rules.proofs.Grown.{withClosing, grown-reads}
 
 -- ---- what a reading says but for its closing list
@@ -125,38 +125,6 @@ module _ (h : Holding) (r : Revision) (limit : ℕ) (k : Taking h r limit) (half
 
 pub alike-itself : (b : Box) → Alike b b
 alike-itself b = record { state = refl; size = refl; places = λ t half n o. record { same = refl } }
-
--- the place that a section is put into
-unfoldable isPlace : State → Table → (number : ℕ) → (t : Table) → (half n : ℕ) → Bool
-isPlace s table number t half n =
-    eqb (indexOf table) (indexOf t) && eqb (1 - holdingOf s table .half) half && eqb number n
-
--- what a place has after a section was taken in
-module _ (b : Box) (x : List ℕ) (c : Content) (k : TakenIn b x c) (t : Table) (half n : ℕ) (halves : half < 2) (low : n < limitOf (b .state)) where
-  abbrev at : ℕ
-  at = placeOf (limitOf (b .state)) t half n
-
-  place-after : sectionAt (boxAfter b x .store) at ≡ cond (isPlace (b .state) (c .table) (c .revision .number) t half n) x (sectionAt (b .store) at)
-  unfolding isPlace gatheredAt
-  place-after = go (eqb (indexOf (c .table)) (indexOf t)) (eqb (1 - holdingOf (b .state) (c .table) .half) half) (eqb (c .revision .number) n) refl refl refl
-    where
-      only : (d : Content) → TakenIn b x d → c ≡ d
-      only d l = one-right (sym (k .passed .reads) ∙ l .passed .reads)
-
-      kept : ((d : Content) → TakenIn b x d → (d .table ≡ t) × (1 - holdingOf (b .state) (d .table) .half ≡ half) × (d .revision .number ≡ n) → ⊥) → sectionAt (boxAfter b x .store) at ≡ sectionAt (b .store) at
-      kept away = same-section (boxAfter b x .store) (b .store) at (place-kept b x t half n halves low away)
-
-      go : (p q r : Bool) → eqb (indexOf (c .table)) (indexOf t) ≡ p → eqb (1 - holdingOf (b .state) (c .table) .half) half ≡ q → eqb (c .revision .number) n ≡ r
-          → sectionAt (boxAfter b x .store) at ≡ cond (p && q && r) x (sectionAt (b .store) at)
-      go true true true ep eq er =
-          let table = same-index (c .table) t (eqb-true _ _ ep) in
-          let half-is = eqb-true (1 - holdingOf (b .state) (c .table) .half) half eq in
-          let number = eqb-true (c .revision .number) n er in
-          let here : at ≡ placeOf (limitOf (b .state)) (c .table) (1 - holdingOf (b .state) (c .table) .half) (c .revision .number) = rw (half-is, number, table) refl in
-          ap (sectionAt (boxAfter b x .store)) here ∙ section-placed b x c k
-      go true true false ep eq er = kept (λ d l e. eqb-false _ _ er (ap (λ (z : Content). z .revision .number) (only d l) ∙ e .2))
-      go true false r ep eq er = kept (λ d l e. eqb-false _ _ eq (ap (λ (z : Content). 1 - holdingOf (b .state) (z .table) .half) (only d l) ∙ e .1))
-      go false q r ep eq er = kept (λ d l e. eqb-false _ _ ep (ap (λ (z : Content). indexOf (z .table)) (only d l) ∙ ap indexOf (e .0)))
 
 -- an occupied place that is not the section's was occupied before
 module _ (b : Box) (x : List ℕ) (c : Content) (k : TakenIn b x c) (t : Table) (half n : ℕ) where

@@ -1,5 +1,5 @@
--- The tender's first condition, sentence by sentence. That the code is these rules for every input, without a `requires`, and returns,
--- is each function's contract (docs/PROMISES.md); here stands what the rules then promise.
+-- The tender's first condition, sentence by sentence. That each entry point is these rules for every input, without a `requires`, and
+-- returns, is its contract (docs/PROMISES.md); here stands what the rules then promise.
 use Prim.Native.Nat.{ℕ, _≤_}
 use mathlib.Core.Path.{_≡_}
 use mathlib.Core.Logic.{_⊎_}
@@ -10,20 +10,27 @@ use Rattle.rules.specs.Section.{Content, check, ask}
 use Rattle.rules.specs.Holding.{takesIn, Box, answerTo, boxAfter, run}
 use Rattle.rules.specs.Tuning.{tune}
 use Rattle.rules.specs.declared.State.{State}
+use Rattle.rules.specs.declared.Answer.{Answer}
 use Rattle.rules.specs.declared.Answer.the-variants.{Refused}
 use Rattle.rules.specs.declared.Asked.the-variants as Asked
+use Rattle.rules.specs.declared.Tuned.{Tuned}
 use Rattle.rules.specs.declared.Tuned.the-variants as Tuned
 use Rattle.rules.proofs.Offers.{TakenIn, taken-in, refused-leaves}
-use Rattle.rules.proofs.Answered.{Answered, answered}
+use Rattle.rules.proofs.Offering.{Offering, offering, offering-only}
+use Rattle.rules.proofs.Answered.{Answered, answered, answered-only}
 use Rattle.rules.proofs.Reach.{khzOf, in-reach}
 use Rattle.rules.proofs.Numbers.{OfSection, OfOffer, OfTuning, check-number, ask-number, offer-number, tune-number}
 
 pub record Condition1 : Type 0 where
-  -- "No input may stop the box or talk it past a check": whatever bytes are offered to whatever state and store, a section that is taken
-  -- in has passed checks 1 and 2, reads right, is for our map, and steps 2 to 4 let it through
-  pub offer-checked : (b : Box) (section : List ℕ) → takesIn (answerTo b section) ≡ true → (c : Content) × TakenIn b section c
-  -- and whatever is asked of whatever state and store, the answer is the one that the checks in their order allow, each told in words
+  -- "No input may stop the box or talk it past a check": whatever bytes are offered to whatever state and store, the answer is the one that
+  -- the checks in their order allow, told in words (but that a state is well formed and that a section reads right are the rules'), and no
+  -- other; and a section that is taken in has passed them all
+  pub offer-checked : (b : Box) (section : List ℕ) → Offering b section (answerTo b section)
+  pub offer-only : (b : Box) (section : List ℕ) (a : Answer) → Offering b section a → a ≡ answerTo b section
+  pub taken-checked : (b : Box) (section : List ℕ) → takesIn (answerTo b section) ≡ true → (c : Content) × TakenIn b section c
+  -- and the like of tuning
   pub tune-checked : (s : State) (store : List ℕ) (number : ℕ) → Answered s store number (tune s store number)
+  pub tune-only : (s : State) (store : List ℕ) (number : ℕ) (t : Tuned) → Answered s store number t → t ≡ tune s store number
   -- "Each entry point takes bytes, state and store as they come, answers or refuses by a number from document 01": the C side's question,
   -- the one for a descriptor, an offer, tuning
   pub check-numbers : (section : List ℕ) → (check section ≡ 0) ⊎ OfSection (check section)
@@ -41,8 +48,11 @@ pub record Condition1 : Type 0 where
 pub condition1 : Condition1
 condition1 =
     record {
-      offer-checked = taken-in;
+      offer-checked = offering;
+      offer-only = offering-only;
+      taken-checked = taken-in;
       tune-checked = answered;
+      tune-only = answered-only;
       check-numbers = check-number;
       ask-numbers = ask-number;
       offer-numbers = offer-number;

@@ -18,8 +18,8 @@ use Rattle.rules.specs.Growth.{Grown, GrownRun}
 use Rattle.rules.specs.declared.Offered.{Offered}
 use Rattle.rules.specs.declared.Answer.the-variants.{Refused}
 use Rattle.rules.proofs.GoingLive.{Checked}
-use Rattle.rules.proofs.GrownRuns.{SameRun, grown-run, grown-printed}
-use Rattle.rules.proofs.Apart.{grown-itself}
+use Rattle.rules.proofs.SameRuns.{SameRun, grown-run, grown-printed}
+use Rattle.rules.proofs.Parted.{grown-itself}
 use Rattle.rules.proofs.Again.{grown-again}
 use Rattle.rules.proofs.GrownAsking.{told, body, Untouched, same-told, SameRevision, revision-told}
 

@@ -1,36 +1,48 @@
-pub mod Hex
-pub mod Computed
-pub mod Examples
-pub mod Readings
-pub mod Taken
-pub mod Closing
-pub mod Places
-pub mod Right
-pub mod Held
-pub mod Steps
-pub mod Store
-pub mod Offers
-pub mod LiveRecords
-pub mod GoingLive
-pub mod Promise
-pub mod Faithful
-pub mod Asking
-pub mod Search
-pub mod Tunes
-pub mod Reach
-pub mod Numbers
-pub mod Lowest
-pub mod LivePlaces
-pub mod Answered
-pub mod Pieces
-pub mod Encoded
-pub mod Grown
-pub mod Apart
-pub mod Again
-pub mod GrownAsking
-pub mod Alike
-pub mod GrownRuns
-pub mod Determined
+-- The theorems about the rules. To read: the three conditions, then the files that their statements use, told in words; then the laws.
+
+-- ---- the tender, sentence by sentence
 pub mod Condition1
 pub mod Condition2
 pub mod Condition3
+-- ---- the paper's examples and the readings of its open places, computed
+pub mod Examples  -- C1 to C13, one fact
+pub mod Readings  -- the readings of docs/DECISIONS.md, part 1
+pub mod Promise  -- an example that meets the conditions of `goes-live`
+pub mod Hex  -- bytes as the paper writes them
+pub mod Computed  -- every definition of the rules, opened
+-- ---- reading a section
+pub mod InParts  -- what a section that reads right says, piece by piece
+pub mod Asking  -- the descriptor question
+pub mod Right  -- what a section that reads right has passed and is made of
+pub mod Taken  -- taking apart what was got
+pub mod Closing  -- the closing list
+pub mod Places  -- where in a section its parts stand
+pub mod Numbers  -- which numbers a refusal can have
+-- ---- holding and going live
+pub mod Offering  -- what an offer answers, told in words
+pub mod Offers  -- what an offer leaves as it was, and what its answer tells
+pub mod Placed  -- what stands in the places after an offer
+pub mod LiveRecords  -- the live records of the other tables stay
+pub mod GoingLive  -- sections 0 to last, in any order
+pub mod Faithful  -- what the state says of the store is so
+pub mod Steps  -- steps 2 to 6, on one table
+pub mod Held  -- the numbers held, as bits
+pub mod Store  -- places, and bytes put into them
+-- ---- from number to tuner
+pub mod Answered  -- what tuning answers, told in words
+pub mod Tunes  -- what a channel number is tuned to, told in words
+pub mod Reach  -- no frequency outside the tuner's reach
+pub mod LivePlaces  -- refusal 16 in words
+pub mod Lowest  -- the lowest section first
+pub mod Search  -- the one fact that the four searches share
+-- ---- growth, and other runs that come to the same
+pub mod SameRuns  -- growth, and what stood in the store, change nothing
+pub mod Alike  -- two boxes that answer and tune alike
+pub mod Grown  -- a grown section reads as it did
+pub mod Again  -- several growths are one
+pub mod Parted  -- a section that reads right, in its parts
+pub mod GrownAsking  -- the descriptor question under growth
+pub mod Encoded  -- descriptors and records as bytes
+-- ---- the input of the line-up, and what a promise decides
+pub mod Pieces  -- an input read in pieces
+pub mod Determined  -- two outcomes that a promise allows are equal

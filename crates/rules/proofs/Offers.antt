@@ -16,12 +16,11 @@ use Rattle.rules.specs.declared.Table.{Table}
 use Rattle.rules.specs.declared.Table.the-variants.{Cds, Mms, Vcm, Dcm}
 use Rattle.rules.specs.declared.Holding.{Holding}
 use Rattle.rules.specs.declared.State.{State}
-use Rattle.rules.specs.declared.Stepped.{Stepped}
 use Rattle.rules.specs.declared.Offered.{Offered}
 use Rattle.rules.specs.declared.Answer.the-variants.{Refused, OtherMap, Repeat, Stored, Live}
 use Rattle.rules.proofs.Taken.{differ, both-left, both-right}
 use Rattle.rules.proofs.Right.{one-right, reads-right}
-use Rattle.rules.proofs.Steps.{formed, Sound, goesLive, SameLive, HeldWith, WentLive, Joined, Taking, step-taking, step-kept, step-formed, step-live, step-went, step-stored, step-completes, went-changes}
+use Rattle.rules.proofs.Steps.{formed, Sound, goesLive, SameLive, WentLive, Joined, Taking, step-taking, step-kept, step-formed, step-live, step-went, step-stored, went-changes}
 use Rattle.rules.proofs.Store.{put-length, put-apart, put-there, same-index, place-fits, places-apart}
 
 -- ---- the tables of a state
@@ -279,13 +278,6 @@ module _ (b : Box) (section : List ℕ) where
             reads = p .reads;
             went = rw (step-holds c p) (step-went (holdingOf s (c .table)) (c .revision) (limitOf s) f v (sym (step-answers c p) ∙ e));
           }
-
-  -- and it answers *live* wherever a section that is taken in makes its version complete
-  pub completes : (c : Content) → TakenIn c → ((k : ℕ) → k ≤ c .revision .last → HeldWith (holdingOf s (c .table)) (c .revision) k)
-      → answerTo b section ≡ Live (c .revision .version)
-  completes c k all =
-      step-answers c (k .passed)
-      ∙ ap (λ (x : Stepped). x .answer) (step-completes (holdingOf s (c .table)) (c .revision) (limitOf s) (k .taking) all)
 
   -- "what is live changes exactly when the answer is *live*"
   pub live-changes : (v : ℕ) → answerTo b section ≡ Live v → (t : Table) × (holdingOf (after .state) t .live ≡ holdingOf s t .live → ⊥)

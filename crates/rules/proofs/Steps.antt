@@ -17,7 +17,7 @@ use Rattle.rules.specs.declared.Stepped.{Stepped}
 use Rattle.rules.specs.declared.Answer.{Answer}
 use Rattle.rules.specs.declared.Answer.the-variants.{Refused, OtherMap, Repeat, Stored, Live}
 use Rattle.rules.proofs.Taken.{differ, both-left, both-right, neither-left, neither-right}
-use Rattle.rules.proofs.Held.{holds-kept, holds-one, holds-new, all-lt, all-held, holds-all, holds-other, not-alone, joined-some, few-held, not-all}
+use Rattle.rules.proofs.Held.{holds-kept, holds-one, holds-new, all-lt, holds-all, holds-other, not-alone, joined-some, few-held, not-all}
 
 same : (n : ℕ) → eqb n n ≡ true
 same n = eq-eqb n n refl
@@ -416,10 +416,3 @@ module _ (h : Holding) (r : Revision) where
         let most : ones (heldWith h r) ≤ r .last = few-held (r .last) (heldWith h r) few in
         let is : missing ≡ r .last + 1 - ones (heldWith h r) = stored-of e in
         record { some = omega arith; sum = omega arith; gathered = refl; held = held-with; all = with-held; live = record { live = refl; half = refl } }))
-
-  -- where all of 0 to last are held with this section, it answers *live*
-  pub step-completes : (limit : ℕ) → Taking limit → ((k : ℕ) → k ≤ r .last → HeldWith k)
-      → stepOf limit h r ≡ record { answer = Live (r .version); holding = goneLive h r }
-  step-completes limit t all =
-      taken-cases limit (λ x. x ≡ record { answer = Live (r .version); holding = goneLive h r }) t (λ e. refl)
-      (λ few. absurd (omega (arith, all-held (r .last) (heldWith h r) (λ k le. with-held k (all k le)))))

@@ -15,6 +15,10 @@ use Rattle.rules.specs.Section.{given}
 pub differ : true ≡ false → ⊥
 differ e = let z : _≡_ {A = ℕ} 0 1 = cc in omega arith
 
+pub not-so : (b : Bool) → (b ≡ true → ⊥) → b ≡ false
+not-so true ne = absurd (ne refl)
+not-so false ne = refl
+
 pub both-left : (a b : Bool) → (a && b) ≡ true → a ≡ true
 both-left true b e = refl
 both-left false b e = e

@@ -23,7 +23,7 @@ use Rattle.rules.proofs.Grown.{laid}
 
 -- ---- nothing added
 
-list-itself : (ds : List Descriptor) → FullerList ds ds
+pub list-itself : (ds : List Descriptor) → FullerList ds ds
 list-itself [] = empty
 list-itself (d ∷ ds) = stays refl (list-itself ds)
 
