@@ -45,6 +45,8 @@ def wrong_answers(edit, copy):
         elif line.startswith("new:"):
             if not answers:
                 fail(f"{edit}: a replacement before the first 'wrong' line")
+            if not file or not file.is_file():
+                fail(f"{edit}: a replacement with no file: line, or in a file that isn't there")
             if line[len("new:") :].removeprefix(" ") not in file.read_text(encoding="utf-8"):
                 fail(f"{edit} is not what was tried: {file} has no '{line[5:]}' (run rt must-fail again)")
             pairs += 1
@@ -100,6 +102,8 @@ def each_refused(root, edits):
         log = copy / ".log"
         if not log.is_file():
             fail(f"{crate}/{edit.stem} was not tried: {log} is not there (run rt must-fail first)")
+        if log.stat().st_mtime < edit.stat().st_mtime:
+            fail(f"{crate}/{edit.stem} was changed since it was tried (run rt must-fail again)")
         found = refusals(log, copy)
         for label, places in wrong_answers(edit, copy):
             if (crate, label) in labels:
@@ -119,9 +123,11 @@ def promised(root, labels, edits):
     """docs/PROMISES.md names every label and says how many there are; every public function is determined."""
     promises = (root / "docs" / "PROMISES.md").read_text(encoding="utf-8")
     for crate, label in labels:
-        if f"`{label}`" not in promises:
+        # of code, in a line that speaks of the crate or one of its functions
+        lines = [line for line in promises.splitlines() if crate in ("rules", "lineup") or f"`{crate}::" in line]
+        if not any(f"`{label}`" in line for line in lines):
             fail(f"docs/PROMISES.md does not name {crate}/{label}")
-    if f"{len(labels)} of them, in {len(edits)} edits" not in promises:
+    if not re.search(rf"^{len(labels)} of them, in {len(edits)} edits", promises, re.MULTILINE):
         fail(f"docs/PROMISES.md does not say '{len(labels)} of them, in {len(edits)} edits'")
     functions = 0
     for source in sorted(root.glob("crates/*/src/lib.rt")):
@@ -130,7 +136,7 @@ def promised(root, labels, edits):
             if not theorems.is_file() or f"pub {function}-determined :" not in theorems.read_text(encoding="utf-8"):
                 fail(f"{theorems} has no {function}-determined")
             functions += 1
-    if f"the {functions} public functions" not in promises:
+    if not re.search(rf"\b{functions} public functions", promises):
         fail(f"docs/PROMISES.md does not speak of 'the {functions} public functions'")
     return functions
 

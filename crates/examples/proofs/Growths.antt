@@ -1,6 +1,6 @@
--- Growth is no empty word: of each table a section and one that it may grow into, with descriptors in the lists of its records and in its
--- closing list, a longer revision descriptor and other reserved bits, of the VCM with and without lists behind its records; and the example
--- plant, grown whole. All by computation.
+-- Growth is no empty word: of each table a section and one that it may grow into, with descriptors put into its closing list and, where
+-- its records have lists, into those; a longer revision descriptor and other reserved bits; in one, other bodies of descriptors that the box
+-- doesn't know; and the example plant, grown whole. By computation, but for `grown-digital`, which is condition 3 applied to it.
 use Prim.Native.Nat.{ℕ}
 use Prim.Native.String.{String}
 use native.Mathlib.Omega.{arith}
@@ -9,7 +9,7 @@ use mathlib.Core.List.{List, [], _∷_, _++_, flatten}
 use Rattle.rules.specs.Bytes.{byte, from}
 use Rattle.rules.specs.Descriptors.{Descriptor}
 use Rattle.rules.specs.Section.{lengthOf, Structure, modes, channels, ranges, Content}
-use Rattle.rules.specs.Growth.{FullerList, GrownClosing, empty, stays, added, other, revised, Piece, Parts, end, next, Grown, GrownRun, grown}
+use Rattle.rules.specs.Growth.{FullerList, empty, stays, added, other, revised, Piece, end, next, Grown, GrownRun, grown}
 use Rattle.rules.specs.Growth
 use Rattle.rules.specs.Lineup.{text, cut, sectionsOf, freshBox, printedOf, lineup}
 use Rattle.rules.specs.declared.Table.{Table}
@@ -106,7 +106,7 @@ carriers-grow =
             pieces = next refl (FullerList.added (d 0x93 "") (FullerList.added (d 0x80 "AA") FullerList.empty)) end;
             closing =
                 added (d 0x81 "") (λ e. omega (arith, e))
-                (revised {d = d 0x93 "E5 00 00"} (record { was = refl; is = refl; long = omega arith; version = refl; more = hex "AA BB"; rest = refl })
+                (revised {d = d 0x93 "E5 00 00"} {e = d 0x93 "05 00 00 AA BB"} (record { was = refl; is = refl; long = omega arith; longer = omega arith; version = refl; number = refl; last = refl })
                 (added (d 0xC0 "01 02") (λ e. omega (arith, e)) empty));
           };
       fits = refl;
@@ -148,7 +148,7 @@ modes-grow =
             front = refl;
             pieces = next refl (FullerList.added (d 0x80 "AA BB CC") FullerList.empty) end;
             closing =
-                revised {d = d 0x93 "E5 00 00"} (record { was = refl; is = refl; long = omega arith; version = refl; more = hex "77"; rest = refl })
+                revised {d = d 0x93 "E5 00 00"} {e = d 0x93 "45 00 00 77"} (record { was = refl; is = refl; long = omega arith; longer = omega arith; version = refl; number = refl; last = refl })
                 (added (d 0x81 "01") (λ e. omega (arith, e)) empty);
           };
       fits = refl;
@@ -191,7 +191,7 @@ ranges-grow =
             pieces = next refl FullerList.empty (next refl FullerList.empty (next refl FullerList.empty end));
             closing =
                 added (d 0x80 "AA") (λ e. omega (arith, e))
-                (revised {d = d 0x93 "E5 00 00"} (record { was = refl; is = refl; long = omega arith; version = refl; more = hex "01"; rest = refl }) empty);
+                (revised {d = d 0x93 "E5 00 00"} {e = d 0x93 "65 00 00 01"} (record { was = refl; is = refl; long = omega arith; longer = omega arith; version = refl; number = refl; last = refl }) empty);
           };
       fits = refl;
       crc = refl;
@@ -234,7 +234,7 @@ channels-grow =
             closing =
                 added (d 0x80 "") (λ e. omega (arith, e))
                 (added (d 0x80 "AA") (λ e. omega (arith, e))
-                (revised {d = d 0x93 "E5 00 00"} (record { was = refl; is = refl; long = omega arith; version = refl; more = hex "FF"; rest = refl }) empty));
+                (revised {d = d 0x93 "E5 00 00"} {e = d 0x93 "25 00 00 FF"} (record { was = refl; is = refl; long = omega arith; longer = omega arith; version = refl; number = refl; last = refl }) empty));
           };
       fits = refl;
       crc = refl;
@@ -277,7 +277,7 @@ included-grow =
             closing =
                 other {d = d 0x81 "01"} (λ e. omega (arith, e)) refl
                 (added (d 0x82 "") (λ e. omega (arith, e))
-                (revised {d = d 0x93 "E5 00 00"} (record { was = refl; is = refl; long = omega arith; version = refl; more = hex "01 02"; rest = refl }) empty));
+                (revised {d = d 0x93 "E5 00 00"} {e = d 0x93 "05 00 00 01 02"} (record { was = refl; is = refl; long = omega arith; longer = omega arith; version = refl; number = refl; last = refl }) empty));
           };
       fits = refl;
       crc = refl;

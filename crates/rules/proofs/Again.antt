@@ -7,7 +7,7 @@ use mathlib.Core.Bool.{Bool, true, false}
 use mathlib.Core.List.{List, [], _∷_, _++_, append-assoc}
 use lib.ListN.{length, take, drop}
 use lib.Seq.{take-at, drop-at}
-use Rattle.rules.specs.Bytes.{got, from}
+use Rattle.rules.specs.Bytes.{got}
 use Rattle.rules.specs.Descriptors.{Descriptor, descriptor, closing}
 use Rattle.rules.specs.Section.{Content}
 use Rattle.rules.specs.Growth.{FullerList, GrownRevision, GrownClosing, empty, stays, added, other, revised, Piece, Parts, shape, Sized, Shaped, encoded, pieceBytes, area, bytesOf, FullerPieces, end, next, GrownParts, Grown}
@@ -31,14 +31,7 @@ pieces-again (next a f g) (next b h k) = next (b ∙ a) (list-again f h) (pieces
 
 revision-again : (d e f : Descriptor) → GrownRevision d e → GrownRevision e f → GrownRevision d f
 revision-again d e f r q =
-    record {
-      was = r .was;
-      is = q .is;
-      long = r .long;
-      version = q .version ∙ r .version;
-      more = r .more ++ q .more;
-      rest = q .rest ∙ ap (λ (l : List ℕ). l ++ q .more) (r .rest) ∙ append-assoc (from (d .body) 1) (r .more) (q .more);
-    }
+    record { was = r .was; is = q .is; long = r .long; longer = q .longer; version = q .version ∙ r .version; number = q .number ∙ r .number; last = q .last ∙ r .last }
 
 closing-again : {ds es fs : List Descriptor} → GrownClosing ds es → GrownClosing es fs → GrownClosing ds fs
 closing-again p empty = p

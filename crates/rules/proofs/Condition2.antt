@@ -17,7 +17,7 @@ use Rattle.rules.proofs.Steps.{goesLive, SameLive}
 use Rattle.rules.proofs.Offers.{NotOf, TakenIn, NowLive, NowHeld, went-live, live-kept, live-changes, others-kept, now-held}
 use Rattle.rules.proofs.LiveRecords.{other-records, records-kept}
 use Rattle.rules.proofs.GoingLive.{Promised, Wanted, NoneOther, goes-live}
-use Rattle.rules.proofs.Faithful.{run-reads}
+use Rattle.rules.proofs.Faithful.{section-placed, run-reads}
 use Rattle.rules.proofs.Answered.{Answered, answered, answered-only}
 use Rattle.rules.proofs.InParts.{InParts, read-in-parts}
 use Rattle.rules.proofs.Offering.{New, NowHas, live, offering-only}
@@ -28,8 +28,8 @@ use Rattle.rules.proofs.SameRuns.{SameRun, any-store}
 
 pub record Condition2 : Type 1 where
   -- "A section is read as SCTE 65 lays it out, under the rules of document 01": the paper's own examples, C1 to C13; and what a section that
-  -- reads right says is what its parts say, as its table lays them out: each record by its own bytes, with its zero bits and limits
-  -- right, at the index that it counts on to; and no byte before the CRC belongs to no part
+  -- reads right says is what its parts say, as its table lays them out: the header, the head, each record by its own bytes, with its zero
+  -- bits and limits right, at the index that it counts on to, the closing list, its revision; and no byte before the CRC belongs to no part
   pub read-as-laid-out : Examples
   pub read-by-parts : (section : List ℕ) (c : Content) → readSection section ≡ right c → InParts section c
   -- "A version of a table goes live at the section that completes it": where the answer is *live* this section completed the version, and
@@ -37,13 +37,17 @@ pub record Condition2 : Type 1 where
   pub live-completes : (b : Box) (section : List ℕ) (v : ℕ) → answerTo b section ≡ Live v → NowLive b section v
   pub complete-lives : (b : Box) (section : List ℕ) (c : Content) → New b section c
       → ((k : ℕ) → k ≤ c .revision .last → NowHas (holdingOf (b .state) (c .table)) (c .revision) k) → answerTo b section ≡ Live (c .revision .version)
-  -- its sections are then those that were offered: this one, at its number, and else those held, which stay from when they are taken in
+  -- its sections are then those that were offered: this one, at its number, and else those held; a section that is taken in stands in its
+  -- place, and stays there until one of its table and number is
   pub live-is-offered : (b : Box) (section : List ℕ) (v : ℕ) → answerTo b section ≡ Live v → (c : Content) → readSection section ≡ right c → (n : ℕ) → n ≤ c .revision .last
       → sectionAt (boxAfter b section .store) (liveAt (boxAfter b section .state) (c .table) n)
       ≡ cond (eqb (c .revision .number) n) section (sectionAt (b .store) (gatheredAt (b .state) (c .table) n))
+  pub taken-is-stored : (b : Box) (section : List ℕ) (c : Content) → TakenIn b section c
+      → sectionAt (boxAfter b section .store) (gatheredAt (b .state) (c .table) (c .revision .number)) ≡ section
   pub held-is-kept : (b : Box) (section : List ℕ) (t : Table) (n : ℕ) → n < limitOf (b .state) → ((c : Content) → TakenIn b section c → (c .table ≡ t) × (c .revision .number ≡ n) → ⊥)
       → sectionAt (boxAfter b section .store) (gatheredAt (b .state) t n) ≡ sectionAt (b .store) (gatheredAt (b .state) t n)
-  -- "and at no other moment": with any other answer what is live of every table stays, and with *live* it does not
+  -- "and at no other moment": with any other answer what is live of every table stays, and with *live* that of one table does not (which,
+  -- and how: `live-completes`)
   pub no-other-moment : (b : Box) (section : List ℕ) → goesLive (answerTo b section) ≡ false → (t : Table) → SameLive (holdingOf (boxAfter b section .state) t) (holdingOf (b .state) t)
   pub that-moment : (b : Box) (section : List ℕ) (v : ℕ) → answerTo b section ≡ Live v
       → (t : Table) × (holdingOf (boxAfter b section .state) t .live ≡ holdingOf (b .state) t .live → ⊥)
@@ -82,6 +86,7 @@ condition2 =
       live-completes = went-live;
       complete-lives = λ b section c new all. sym (offering-only b section _ (live new all));
       live-is-offered = live-sections;
+      taken-is-stored = section-placed;
       held-is-kept = held-stays;
       no-other-moment = live-kept;
       that-moment = live-changes;

@@ -60,7 +60,7 @@ pub record Condition3 : Type 0 where
   pub protocol-read : (section : List ℕ) → OtherProtocol section → readSection section ≡ wrong 6
   pub protocol-offered : (b : Box) (section : List ℕ) → Checked b → OtherProtocol section → answerTo b section ≡ Refused 6
   -- document 01, of the question for a descriptor: "it covers only tags that growth didn't add, and for 0x93 the first three body bytes
-  -- without their reserved bits"
+  -- without their reserved bits"; nor tags of which growth changed a body (`Untouched`)
   pub same-descriptor : (tag : ℕ) (s g : List ℕ) (w : Grown s g) → (tag ≡ revisionTag → ⊥) → Untouched tag (w .grows .closing) → told g (ask tag g) ≡ told s (ask tag s)
   pub same-revision : (s g : List ℕ) (w : Grown s g)
       → (x : List ℕ) × (y : List ℕ) × (told s (ask revisionTag s) ≡ body x) × (told g (ask revisionTag g) ≡ body y) × SameRevision x y

@@ -6,7 +6,7 @@ use mathlib.Core.Path.{_≡_, refl, sym, ap, _∙_}
 use mathlib.Core.Bool.{Bool, true, false, cond}
 use mathlib.Core.List.{List, [], _∷_, _++_}
 use lib.ListN.{length, length-append, List·getD-append}
-use lib.Seq.{take-at, drop-at, drop-append-le, getD-take, getD-drop}
+use lib.Seq.{take-at, drop-at, drop-append-le, getD-take}
 use lib.Dec.{eqb}
 use borrow.Author.Tests.{le-leb, lt-ltb, eq-eqb, ne-eqb}
 use Rattle.rules.specs.Bytes.{Got, got, unless, andThen, giving, byte, from}
@@ -159,22 +159,9 @@ revision-alike (one e none) = e
 revision-alike (one e (one f a)) = refl
 
 -- "bytes added at the end of the revision descriptor, reserved bits set anyhow"
-module _ (d e : Descriptor) (r : GrownRevision d e) where
-  later-same : (i : ℕ) → i < 2 → byte (1 + i) (e .body) ≡ byte (1 + i) (d .body)
-  unfolding byte from
-  later-same i h =
-      sym (getD-drop 1 (e .body) i 0)
-      ∙ ap (byte i) (r .rest)
-      ∙ List·getD-append (from (d .body) 1) (r .more) 0 i (omega (arith, r .long, from-length (d .body) 1))
-      ∙ getD-drop 1 (d .body) i 0
-
-  revised-same : revision (e .body ∷ []) ≡ revision (d .body ∷ [])
-  unfolding revision
-  revised-same =
-      let long : 3 ≤ length (e .body) = omega (arith, r .long, ap length (r .rest), from-length (e .body) 1, from-length (d .body) 1, length-append (from (d .body) 1) (r .more)) in
-      let number : byte 1 (e .body) ≡ byte 1 (d .body) = later-same 0 (omega arith) in
-      let last : byte 2 (e .body) ≡ byte 2 (d .body) = later-same 1 (omega arith) in
-      rw (le-leb _ _ long, le-leb _ _ (r .long), number, last, r .version)
+revised-same : (d e : Descriptor) → GrownRevision d e → revision (e .body ∷ []) ≡ revision (d .body ∷ [])
+unfolding revision
+revised-same d e r = rw (le-leb _ _ (r .longer), le-leb _ _ (r .long), r .number, r .last, r .version)
 
 bodies-alike : {ds es : List Descriptor} → GrownClosing ds es → SameBodies (bodies revisionTag ds) (bodies revisionTag es)
 unfolding bodies

@@ -1,23 +1,25 @@
 -- What a section that reads right says is what its parts say, piece by piece: each record says what its own bytes say, at the index
 -- that it counts on to, and its zero bits and limits are right; the closing list is that of the parts.
-use Prim.Native.Nat.{ℕ, suc, _+_}
+use Prim.Native.Nat.{ℕ, suc, _+_, _/_}
 use native.Mathlib.Omega.{arith}
 use mathlib.Core.Path.{_≡_, refl, sym, ap, _∙_}
-use mathlib.Core.Bool.{Bool, true, false}
+use mathlib.Core.Bool.{Bool, true, false, _&&_, _||_}
+use mathlib.Core.Option.{some}
 use mathlib.Core.List.{List, [], _∷_, _++_, append-assoc}
 use lib.ListN.{length, take, List·getD-append}
+use lib.Dec.{ltb, eqb}
 use lib.Seq.{take-at, drop-at, drop-append-le}
 use Rattle.rules.specs.Bytes.{got, andThen, giving, byte, from}
-use Rattle.rules.specs.Descriptors.{closing}
+use Rattle.rules.specs.Descriptors.{closing, bodies}
 use Rattle.rules.specs.Layout.{Layout, Numbered, numbered, entry, after, records, head}
 use Rattle.rules.specs.Tables.{cds, mms, vcmHead, vcm, dcmHead, dcm}
-use Rattle.rules.specs.Section.{Structure, carriers, modes, channels, ranges, structure, Content, withoutCrc, right, readSection}
+use Rattle.rules.specs.Section.{mediumAt, named, mapOf, revisionTag, Structure, carriers, modes, channels, ranges, structure, Content, withoutCrc, right, readSection}
 use Rattle.rules.specs.Growth.{Piece, Parts, shape, Sized, Shaped, encoded, pieceBytes, area, bytesOf, end, next}
 use Rattle.rules.specs.declared.Table.{Table}
 use Rattle.rules.specs.declared.Table.the-variants.{Cds, Mms, Vcm, Dcm}
 use Rattle.rules.proofs.Taken.{then-got, giving-got, head-got, taken}
 use Rattle.rules.proofs.Places.{from-length}
-use Rattle.rules.proofs.Right.{reads-right}
+use Rattle.rules.proofs.Right.{header-facts, ReadFrom, read-from, reads-right}
 use Rattle.rules.proofs.Encoded.{closing-encoded, records-grown}
 use Rattle.rules.proofs.Parted.{list-itself, in-parts}
 
@@ -148,17 +150,37 @@ said-by-parts s c e p shaped is =
     let k : got (c .closing) (m .end) ≡ got (p .closing) [] = sym (m .closed) ∙ ap closing (r .0) ∙ closing-encoded (p .closing) in
     (r .1, cc, r .2)
 
--- a section that reads right, told by its parts: no byte before its CRC is left out, and what it says stands in them
+-- a section that reads right, told by its parts: no byte before its CRC is left out, and what it says stands in them. The header names its
+-- table, and its zero bits and first index are right; the map number; the records; the closing list; the one revision descriptor in it
 pub record InParts (s : List ℕ) (c : Content) : Type 0 where
   pub parts : Parts
   pub shaped : Shaped (c .table) parts
   pub bytes : withoutCrc s ≡ bytesOf (c .table) parts
+  pub table : named (byte 0 (withoutCrc s)) (byte (mediumAt (withoutCrc s)) (withoutCrc s)) ≡ some (c .table)
+  pub zeros : (eqb (byte 1 (withoutCrc s) / 64) 0 && eqb (byte 3 (withoutCrc s) / 32) 0) ≡ true
+  pub index : (eqb (byte 0 (withoutCrc s)) 0xC4 || ltb 0 (byte 4 (withoutCrc s))) ≡ true
+  pub map : mapOf (withoutCrc s) ≡ c .map
   pub structure : c .structure ≡ said (c .table) parts
-  pub closing : c .closing ≡ parts .closing
   pub fair : Fair (c .table) parts
+  pub closing : c .closing ≡ parts .closing
+  pub revision : ReadFrom (c .revision) (bodies revisionTag (c .closing))
 
 pub read-in-parts : (s : List ℕ) (c : Content) → readSection s ≡ right c → InParts s c
 read-in-parts s c e =
     let p = in-parts s c e in
     let r = said-by-parts s c e (p .0) (p .1) (p .2) in
-    record { parts = p .0; shaped = p .1; bytes = p .2; structure = r .0; closing = r .1; fair = r .2 }
+    let m = reads-right s c e .made in
+    let h = header-facts _ _ _ (m .headed) in
+    record {
+      parts = p .0;
+      shaped = p .1;
+      bytes = p .2;
+      table = h .1;
+      zeros = h .2;
+      index = h .3;
+      map = m .map;
+      structure = r .0;
+      fair = r .2;
+      closing = r .1;
+      revision = read-from _ _ _ (m .revises);
+    }

@@ -24,14 +24,16 @@ pub data FullerList : (before after : List Descriptor) → Type 0 where
   stays : {ds es : List Descriptor} {d e : Descriptor} → e .tag ≡ d .tag → FullerList ds es → FullerList (d ∷ ds) (e ∷ es)
   added : {ds es : List Descriptor} (d : Descriptor) → FullerList ds es → FullerList ds (d ∷ es)
 
--- "bytes added at the end of the revision descriptor, reserved bits set anyhow": its number and last stay, and its version
+-- "bytes added at the end of the revision descriptor, reserved bits set anyhow": version, number and last stay. The bytes behind them are
+-- unknown to the box and may be any
 pub record GrownRevision (d e : Descriptor) : Type 0 where
   pub was : d .tag ≡ revisionTag
   pub is : e .tag ≡ revisionTag
   pub long : 3 ≤ length (d .body)
+  pub longer : 3 ≤ length (e .body)
   pub version : byte 0 (e .body) % 32 ≡ byte 0 (d .body) % 32
-  pub more : List ℕ
-  pub rest : from (e .body) 1 ≡ from (d .body) 1 ++ more
+  pub number : byte 1 (e .body) ≡ byte 1 (d .body)
+  pub last : byte 2 (e .body) ≡ byte 2 (d .body)
 
 -- into the closing list: of any tag but the revision's, and anywhere. One that was there stays; or, of a tag that the box doesn't know,
 -- keeps its tag with any body, as above; or is the revision descriptor, grown
