@@ -23,8 +23,11 @@ use Rattle.rules.specs.declared.Offered.{Offered}
 use Rattle.rules.proofs.Right.{one-right}
 use Rattle.rules.proofs.Taken.{differ}
 use Rattle.rules.proofs.Held.{holds-all}
-use Rattle.rules.proofs.Steps.{formed, held-before, Taking, taken-cases}
-use Rattle.rules.proofs.Offers.{same-table, table-formed, TakenIn, taken-in, untouched, limit-kept, formed-kept, others-kept, step-holds, length-kept}
+use Rattle.rules.proofs.Formed.{formed}
+use Rattle.rules.proofs.Steps.{held-before, Taking, taken-cases}
+use Rattle.rules.proofs.States.{same-table, table-formed}
+use Rattle.rules.proofs.Offers.{TakenIn, taken-in, untouched, limit-kept, formed-kept, others-kept, step-holds}
+use Rattle.rules.proofs.Kept.{length-kept}
 use Rattle.rules.proofs.LiveRecords.{same-sections}
 use Rattle.rules.proofs.LivePlaces.{live-says}
 use Rattle.rules.proofs.Faithful.{live-low, gathered-low, gathered-named}

@@ -19,9 +19,12 @@ use Rattle.rules.specs.declared.Revision.{Revision}
 use Rattle.rules.proofs.Taken.{both-left, both-right}
 use Rattle.rules.proofs.Held.{all-lt, holds-all, held-below}
 use Rattle.rules.proofs.Right.{one-right, reads-right}
-use Rattle.rules.proofs.Steps.{formed, gathered-clauses, gathered-last, held-before, Taking, taken-cases}
+use Rattle.rules.proofs.Formed.{formed, gathered-clauses}
+use Rattle.rules.proofs.Steps.{gathered-last, held-before, Taking, taken-cases}
 use Rattle.rules.proofs.Store.{same-section, section-there}
-use Rattle.rules.proofs.Offers.{same-table, table-formed, NotOf, TakenIn, taken-in, untouched, map-kept, limit-kept, others-kept, step-holds, place-kept, other-places}
+use Rattle.rules.proofs.States.{same-table, table-formed}
+use Rattle.rules.proofs.Offers.{NotOf, TakenIn, taken-in, untouched, map-kept, limit-kept, others-kept, step-holds}
+use Rattle.rules.proofs.Kept.{place-kept, other-places}
 use Rattle.rules.proofs.LivePlaces.{every-so, four-so, four-at}
 use Rattle.rules.proofs.GoingLive.{map-by, Wanted}
 

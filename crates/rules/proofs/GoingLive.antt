@@ -20,8 +20,11 @@ use Rattle.rules.specs.declared.Revision.{Revision}
 use Rattle.rules.proofs.Taken.{differ, both-left, both-right}
 use Rattle.rules.proofs.Right.{one-right, not-right}
 use Rattle.rules.proofs.Held.{all-held}
-use Rattle.rules.proofs.Steps.{held-lt, gathered-last, live-last, Sound, After, step-refused, step-after}
-use Rattle.rules.proofs.Offers.{same-table, table-formed, Passed, passed-sound, offer-cases, NotOf, step-holds, untouched, map-kept, limit-kept, formed-kept, others-kept, length-kept}
+use Rattle.rules.proofs.Formed.{held-lt}
+use Rattle.rules.proofs.Steps.{gathered-last, live-last, Sound, After, step-refused, step-after}
+use Rattle.rules.proofs.States.{same-table, table-formed}
+use Rattle.rules.proofs.Offers.{Passed, passed-sound, offer-cases, NotOf, step-holds, untouched, map-kept, limit-kept, formed-kept, others-kept}
+use Rattle.rules.proofs.Kept.{length-kept}
 
 -- "state and store pass checks 1 and 2"
 pub record Checked (b : Box) : Type 0 where

@@ -21,11 +21,14 @@ pub mod Numbers  -- which numbers a refusal can have
 -- ---- holding and going live
 pub mod Offering  -- what an offer answers, told in words
 pub mod Offers  -- what an offer leaves as it was, and what its answer tells
+pub mod Kept  -- the store after an offer
 pub mod Placed  -- what stands in the places after an offer
 pub mod LiveRecords  -- the live records of the other tables stay
 pub mod GoingLive  -- sections 0 to last, in any order
 pub mod Faithful  -- what the state says of the store is so
 pub mod Steps  -- steps 2 to 6, on one table
+pub mod Formed  -- a holding that is well formed
+pub mod States  -- the tables of a state
 pub mod Held  -- the numbers held, as bits
 pub mod Store  -- places, and bytes put into them
 -- ---- from number to tuner

@@ -90,13 +90,13 @@ or-right true b e = refl
 or-right false b e = e
 
 module _ (h : Holding) (v : ℕ) where
-  live-says : isLive h v ≡ true → LiveIs h v
+  live-tells : isLive h v ≡ true → LiveIs h v
   unfolding isLive
-  live-says e = (eqb-true (h .live .present) 1 (both-left _ (eqb (h .live .version) v) e), eqb-true (h .live .version) v (both-right (eqb (h .live .present) 1) _ e))
+  live-tells e = (eqb-true (h .live .present) 1 (both-left _ (eqb (h .live .version) v) e), eqb-true (h .live .version) v (both-right (eqb (h .live .present) 1) _ e))
 
-  live-so : LiveIs h v → isLive h v ≡ true
+  live-told : LiveIs h v → isLive h v ≡ true
   unfolding isLive
-  live-so (there, is) = simp (eq-eqb (h .live .present) 1 there, eq-eqb (h .live .version) v is)
+  live-told (there, is) = simp (eq-eqb (h .live .present) 1 there, eq-eqb (h .live .version) v is)
 
   gathered-says : isGathered h v ≡ true → GatheredIs h v
   unfolding isGathered
@@ -115,7 +115,7 @@ module _ (h : Holding) (r : Revision) where
       go : ((isLive h (r .version) && not (eqb (h .live .last) (r .last))) ≡ true) ⊎ ((isGathered h (r .version) && not (eqb (h .gathered .last) (r .last))) ≡ true) → OtherLast h r
       go (inl q) =
           inl (
-            live-says h (r .version) (both-left _ (not (eqb (h .live .last) (r .last))) q),
+            live-tells h (r .version) (both-left _ (not (eqb (h .live .last) (r .last))) q),
             eqb-false (h .live .last) (r .last) (not-true _ (both-right (isLive h (r .version)) _ q)),
           )
       go (inr q) =
@@ -126,7 +126,7 @@ module _ (h : Holding) (r : Revision) where
 
   other-so : OtherLast h r → otherLast h r ≡ true
   unfolding otherLast
-  other-so (inl (l, ne)) = simp (live-so h (r .version) l, ne-eqb (h .live .last) (r .last) ne)
+  other-so (inl (l, ne)) = simp (live-told h (r .version) l, ne-eqb (h .live .last) (r .last) ne)
   other-so (inr (g, ne)) =
       or-right (isLive h (r .version) && not (eqb (h .live .last) (r .last))) _ (simp (gathered-so h (r .version) g, ne-eqb (h .gathered .last) (r .last) ne))
 
@@ -135,12 +135,12 @@ module _ (h : Holding) (r : Revision) where
   repeat-says e = go (or-says (isLive h (r .version)) _ e)
     where
       go : (isLive h (r .version) ≡ true) ⊎ ((isGathered h (r .version) && holds (h .gathered .held) (r .number)) ≡ true) → Repeated h r
-      go (inl l) = inl (live-says h (r .version) l)
+      go (inl l) = inl (live-tells h (r .version) l)
       go (inr q) = inr (gathered-says h (r .version) (both-left _ (holds (h .gathered .held) (r .number)) q), both-right (isGathered h (r .version)) _ q)
 
   repeat-so : Repeated h r → isRepeat h r ≡ true
   unfolding isRepeat
-  repeat-so (inl l) = simp (live-so h (r .version) l)
+  repeat-so (inl l) = simp (live-told h (r .version) l)
   repeat-so (inr (g, q)) = or-right (isLive h (r .version)) _ (simp (gathered-so h (r .version) g, q))
 
   has-says : (k : ℕ) → holds (heldWith h r) k ≡ true → NowHas h r k

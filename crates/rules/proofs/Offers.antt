@@ -1,100 +1,26 @@
 -- An offer, for every box and every section: what it leaves as it was, what its answer tells, and that state and store stay
 -- such that checks 1 and 2 pass.
-use Prim.Native.Nat.{ℕ, _+_, _-_, _<_, _≤_}
+use Prim.Native.Nat.{ℕ, _+_, _-_, _≤_}
 use native.Mathlib.Omega.{arith}
-use mathlib.Core.Path.{_≡_, refl, sym, ap, subst, _∙_}
+use mathlib.Core.Path.{_≡_, refl, sym, ap, _∙_}
 use mathlib.Core.Logic.{_⊎_, inl, inr}
-use mathlib.Core.Bool.{Bool, true, false, _&&_}
+use mathlib.Core.Bool.{Bool, true, false}
 use mathlib.Core.List.{List}
-use lib.Dec.{ltb, eqb}
-use lib.ListN.{length, take}
-use borrow.Author.Tests.{ltb-false, le-ltb, eqb-true, eqb-false}
-use Rattle.rules.specs.Bytes.{from}
+use lib.Dec.{ltb}
+use lib.ListN.{length}
+use borrow.Author.Tests.{ltb-false, le-ltb}
 use Rattle.rules.specs.Section.{Content, Reading, wrong, right, readSection}
-use Rattle.rules.specs.Holding.{limitOf, indexOf, placeOf, storeSize, put, holdingOf, with, liveAt, gatheredAt, noneLive, noneGathered, freshHolding, fresh, liveFormed, gatheredFormed, sameVersion, holdingFormed, wellFormed, stepOf, otherMap, stepped, offeredAs, offered, takesIn, putAs, storeAfter, Box, answerTo, boxAfter}
+use Rattle.rules.specs.Holding.{limitOf, storeSize, put, holdingOf, with, gatheredAt, wellFormed, stepOf, otherMap, stepped, offeredAs, offered, takesIn, putAs, storeAfter, Box, answerTo, boxAfter}
 use Rattle.rules.specs.declared.Table.{Table}
-use Rattle.rules.specs.declared.Table.the-variants.{Cds, Mms, Vcm, Dcm}
 use Rattle.rules.specs.declared.Holding.{Holding}
 use Rattle.rules.specs.declared.State.{State}
 use Rattle.rules.specs.declared.Offered.{Offered}
 use Rattle.rules.specs.declared.Answer.the-variants.{Refused, OtherMap, Repeat, Stored, Live}
-use Rattle.rules.proofs.Taken.{differ, both-left, both-right}
-use Rattle.rules.proofs.Right.{one-right, reads-right}
-use Rattle.rules.proofs.Steps.{formed, Sound, goesLive, SameLive, WentLive, Joined, Taking, step-taking, step-kept, step-formed, step-live, step-went, step-stored, went-changes}
-use Rattle.rules.proofs.Store.{put-length, put-apart, put-there, same-index, place-fits, places-apart}
-
--- ---- the tables of a state
-
-pub with-same : (s : State) (t : Table) (h : Holding) → holdingOf (with s t h) t ≡ h
-with-same s Cds h = refl
-with-same s Mms h = refl
-with-same s Vcm h = refl
-with-same s Dcm h = refl
-
-pub with-own : (s : State) (t : Table) → with s t (holdingOf s t) ≡ s
-with-own s Cds = refl
-with-own s Mms = refl
-with-own s Vcm = refl
-with-own s Dcm = refl
-
-pub with-other : (s : State) (t u : Table) (h : Holding) → (t ≡ u → ⊥) → holdingOf (with s t h) u ≡ holdingOf s u
-with-other s Cds Cds h ne = absurd (ne refl)
-with-other s Cds Mms h ne = refl
-with-other s Cds Vcm h ne = refl
-with-other s Cds Dcm h ne = refl
-with-other s Mms Cds h ne = refl
-with-other s Mms Mms h ne = absurd (ne refl)
-with-other s Mms Vcm h ne = refl
-with-other s Mms Dcm h ne = refl
-with-other s Vcm Cds h ne = refl
-with-other s Vcm Mms h ne = refl
-with-other s Vcm Vcm h ne = absurd (ne refl)
-with-other s Vcm Dcm h ne = refl
-with-other s Dcm Cds h ne = refl
-with-other s Dcm Mms h ne = refl
-with-other s Dcm Vcm h ne = refl
-with-other s Dcm Dcm h ne = absurd (ne refl)
-
-pub same-table : (t u : Table) → (t ≡ u) ⊎ (t ≡ u → ⊥)
-same-table t u = go (eqb (indexOf t) (indexOf u)) refl
-  where
-    go : (b : Bool) → eqb (indexOf t) (indexOf u) ≡ b → (t ≡ u) ⊎ (t ≡ u → ⊥)
-    go true e = inl (same-index t u (eqb-true _ _ e))
-    go false e = inr (λ q. eqb-false (indexOf t) (indexOf u) e (ap indexOf q))
-
--- the map number and the limit are not a table's
-with-map : (s : State) (t : Table) (h : Holding) → with s t h .map ≡ s .map
-with-map s Cds h = refl
-with-map s Mms h = refl
-with-map s Vcm h = refl
-with-map s Dcm h = refl
-
-with-limit : (s : State) (t : Table) (h : Holding) → limitOf (with s t h) ≡ limitOf s
-unfolding limitOf
-with-limit s t h = refl
-
--- each table of a well-formed state is well formed, and another one that is may stand in its place
-pub table-formed : (s : State) (t : Table) → wellFormed s ≡ true → holdingFormed (limitOf s) (holdingOf s t) ≡ true
-unfolding wellFormed
-table-formed s Cds e = both-left _ (holdingFormed (limitOf s) (s .mms)) (both-left _ (holdingFormed (limitOf s) (s .vcm)) (both-left _ (holdingFormed (limitOf s) (s .dcm)) e))
-table-formed s Mms e = both-right (holdingFormed (limitOf s) (s .cds)) _ (both-left _ (holdingFormed (limitOf s) (s .vcm)) (both-left _ (holdingFormed (limitOf s) (s .dcm)) e))
-table-formed s Vcm e = both-right (holdingFormed (limitOf s) (s .cds) && holdingFormed (limitOf s) (s .mms)) _ (both-left _ (holdingFormed (limitOf s) (s .dcm)) e)
-table-formed s Dcm e = both-right (holdingFormed (limitOf s) (s .cds) && holdingFormed (limitOf s) (s .mms) && holdingFormed (limitOf s) (s .vcm)) _ e
-
-all-formed : (s : State) → ((t : Table) → holdingFormed (limitOf s) (holdingOf s t) ≡ true) → wellFormed s ≡ true
-unfolding wellFormed
-all-formed s f = simp (f Cds, f Mms, f Vcm, f Dcm)
-
-with-formed : (s : State) (t : Table) (h : Holding) → wellFormed s ≡ true → holdingFormed (limitOf s) h ≡ true → wellFormed (with s t h) ≡ true
-with-formed s t h e f = all-formed (with s t h) (λ u. rw (with-limit s t h) (go u (same-table t u)))
-  where
-    go : (u : Table) → (t ≡ u) ⊎ (t ≡ u → ⊥) → holdingFormed (limitOf s) (holdingOf (with s t h) u) ≡ true
-    go u (inl q) = rw (← q, with-same s t h) f
-    go u (inr ne) = rw (with-other s t u h ne) (table-formed s u e)
-
-pub fresh-formed : (map : ℕ) → wellFormed (fresh map) ≡ true
-unfolding fresh limitOf wellFormed holdingFormed liveFormed gatheredFormed sameVersion freshHolding noneLive noneGathered
-fresh-formed map = refl
+use Rattle.rules.proofs.Taken.{differ}
+use Rattle.rules.proofs.Right.{reads-right}
+use Rattle.rules.proofs.Steps.{Sound, goesLive, SameLive, WentLive, Joined, Taking, step-taking, step-kept, step-formed, step-live, step-went, step-stored, went-changes}
+use Rattle.rules.proofs.Store.{place-fits}
+use Rattle.rules.proofs.States.{same-table, table-formed, with-formed, with-limit, with-map, with-other, with-own, with-same}
 
 -- ---- the ways of an offer
 
@@ -302,83 +228,3 @@ module _ (b : Box) (section : List ℕ) where
             reads = p .reads;
             joined = rw (step-holds c p) (step-stored (holdingOf s (c .table)) (c .revision) (limitOf s) f missing (sym (step-answers c p) ∙ e));
           }
-
-  -- the store keeps its length
-  pub length-kept : length (after .store) ≡ length (b .store)
-  length-kept = go (takesIn (answerTo b section)) refl
-    where
-      go : (x : Bool) → takesIn (answerTo b section) ≡ x → length (after .store) ≡ length (b .store)
-      go false e = ap (λ (k : Box). length (k .store)) (untouched e)
-      go true e =
-          let t = taken-in e .1 in
-          ap length (t .stored) ∙ put-length (b .store) _ section (t .fits)
-
-  -- a part of the store that a section which is taken in does not reach
-  pub part-kept : (p n : ℕ)
-      → ((c : Content) → TakenIn c → (p + n ≤ gatheredAt s (c .table) (c .revision .number)) ⊎ (gatheredAt s (c .table) (c .revision .number) + length section ≤ p))
-      → take n (from (after .store) p) ≡ take n (from (b .store) p)
-  part-kept p n away = go (takesIn (answerTo b section)) refl
-    where
-      go : (x : Bool) → takesIn (answerTo b section) ≡ x → take n (from (after .store) p) ≡ take n (from (b .store) p)
-      go false e = ap (λ (k : Box). take n (from (k .store) p)) (untouched e)
-      go true e =
-          let c = taken-in e .0 in
-          let t = taken-in e .1 in
-          ap (λ (l : List ℕ). take n (from l p)) (t .stored)
-          ∙ put-apart (b .store) (gatheredAt s (c .table) (c .revision .number)) section (t .fits) p n (away c t)
-
-  -- "Steps 5 and 6 put the section's bytes at the front of its place"
-  pub placed : (c : Content) → TakenIn c → take (length section) (from (after .store) (gatheredAt s (c .table) (c .revision .number))) ≡ section
-  placed c t =
-      ap (λ (l : List ℕ). take (length section) (from l (gatheredAt s (c .table) (c .revision .number)))) (t .stored)
-      ∙ put-there (b .store) (gatheredAt s (c .table) (c .revision .number)) section (t .fits)
-
-  -- "the rest of the place", and all behind it
-  pub rest-kept : (c : Content) → TakenIn c → (p n : ℕ) → gatheredAt s (c .table) (c .revision .number) + length section ≤ p
-      → take n (from (after .store) p) ≡ take n (from (b .store) p)
-  rest-kept c t p n le =
-      part-kept p n (λ d k. inr (subst (λ (x : Content). gatheredAt s (x .table) (x .revision .number) + length section ≤ p) (sym (one-right (sym (k .passed .reads) ∙ t .passed .reads))) le))
-
-  -- every place but the one that the section is put into
-  pub place-kept : (t : Table) (half n : ℕ) → half < 2 → n < limitOf s
-      → ((c : Content) → TakenIn c → (c .table ≡ t) × (1 - holdingOf s (c .table) .half ≡ half) × (c .revision .number ≡ n) → ⊥)
-      → take 1024 (from (after .store) (placeOf (limitOf s) t half n)) ≡ take 1024 (from (b .store) (placeOf (limitOf s) t half n))
-  unfolding gatheredAt
-  place-kept t half n halves low away =
-      part-kept (placeOf (limitOf s) t half n) 1024
-      (λ c k. nearer (reads-right section c (k .passed .reads) .short) (places-apart (limitOf s) (c .table) (1 - holdingOf s (c .table) .half) (c .revision .number) (omega arith)
-      (omega (arith, k .taking .ready .sound .number, k .taking .ready .low)) t half n halves low (away c k)))
-    where
-      nearer : {at p : ℕ} → length section ≤ 1024 → (at + 1024 ≤ p) ⊎ (p + 1024 ≤ at) → (p + 1024 ≤ at) ⊎ (at + length section ≤ p)
-      nearer short (inl le) = inr (omega arith)
-      nearer short (inr le) = inl le
-
-  -- the places of another table, in both halves
-  pub other-places : (t : Table) → NotOf t section → (half n : ℕ) → half < 2 → n < limitOf s
-      → take 1024 (from (after .store) (placeOf (limitOf s) t half n)) ≡ take 1024 (from (b .store) (placeOf (limitOf s) t half n))
-  other-places t not-of half n halves low = place-kept t half n halves low (λ c k e. not-of .other c (k .passed .reads) (e .0))
-
-  -- the live places of every table, of the section's own too
-  pub live-places : (t : Table) (n : ℕ) → n < limitOf s → take 1024 (from (after .store) (liveAt s t n)) ≡ take 1024 (from (b .store) (liveAt s t n))
-  unfolding liveAt
-  live-places t n low = go (takesIn (answerTo b section)) refl
-    where
-      go : (x : Bool) → takesIn (answerTo b section) ≡ x
-          → take 1024 (from (after .store) (placeOf (limitOf s) t (holdingOf s t .half) n)) ≡ take 1024 (from (b .store) (placeOf (limitOf s) t (holdingOf s t .half) n))
-      go false e = ap (λ (k : Box). take 1024 (from (k .store) (placeOf (limitOf s) t (holdingOf s t .half) n))) (untouched e)
-      go true e =
-          let halves : holdingOf s t .half < 2 = formed (limitOf s) (holdingOf s t) (table-formed s t (taken-in e .1 .passed .good)) .half in
-          place-kept t (holdingOf s t .half) n halves low
-          (λ c k q.
-          let other : 1 - holdingOf s t .half ≡ holdingOf s t .half = ap (λ (u : Table). 1 - holdingOf s u .half) (sym (q .0)) ∙ q .1 in
-          omega arith)
-
-  -- "any bytes behind the last place"
-  pub behind-kept : (p n : ℕ) → storeSize (limitOf s) ≤ p → take n (from (after .store) p) ≡ take n (from (b .store) p)
-  unfolding gatheredAt
-  behind-kept p n le =
-      part-kept p n
-      (λ c k.
-      let fits = place-fits (limitOf s) (c .table) (1 - holdingOf s (c .table) .half) (c .revision .number) (omega arith)
-      (omega (arith, k .taking .ready .sound .number, k .taking .ready .low)) in
-      inr (omega (arith, fits, reads-right section c (k .passed .reads) .short)))

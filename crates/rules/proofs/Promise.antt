@@ -18,7 +18,7 @@ use Rattle.rules.proofs.Computed.{computed}
 use Rattle.rules.proofs.Examples.{c1Content, examples}
 use Rattle.rules.proofs.Taken.{differ}
 use Rattle.rules.proofs.Right.{one-right, not-right}
-use Rattle.rules.proofs.Offers.{fresh-formed}
+use Rattle.rules.proofs.States.{fresh-formed}
 use Rattle.rules.proofs.GoingLive.{NoOtherLast, Wanted, Among, NoOther, NoneOther, Promised, goes-live}
 
 -- section n of 0 to 1 of version 5, with the record of C1

@@ -18,8 +18,8 @@ use Rattle.rules.specs.declared.Read.the-variants as Read
 use Rattle.rules.specs.declared.Tuned.{Tuned}
 use Rattle.rules.specs.declared.Tuned.the-variants as Tuned
 use Rattle.rules.proofs.Taken.{differ}
-use Rattle.rules.proofs.Steps.{formed}
-use Rattle.rules.proofs.Offers.{table-formed}
+use Rattle.rules.proofs.Formed.{formed}
+use Rattle.rules.proofs.States.{table-formed}
 use Rattle.rules.proofs.LiveRecords.{last-low}
 use Rattle.rules.proofs.LivePlaces.{every-at, four-at}
 use Rattle.search.specs.Live.{Live}
