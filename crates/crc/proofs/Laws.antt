@@ -1,8 +1,8 @@
 -- The laws of the CRC: it goes on over concatenation, its register has 32 bits, and a message with its CRC behind it leaves 0.
 -- They are the laws of Linear.antt, eight bits at a time: a byte is the eight highest bits of a number that has it on top.
-use mathlib.Core.Path.{_≡_, refl, ap₂, _∙_}
+use mathlib.Core.Path.{_≡_, refl, sym, ap, ap₂, _∙_}
 use mathlib.Core.List.{List, [], _∷_, _++_}
-use Prim.Native.Nat.{ℕ, _*_, _/_, _%_, _^_, _<_}
+use Prim.Native.Nat.{ℕ, _+_, _*_, _/_, _%_, _^_, _<_}
 use native.Mathlib.Omega.{arith}
 use lib.Dec.{lit<}
 use lib.ListN.{replicate}
@@ -40,6 +40,10 @@ top-byte v b h e =
     (ap₂ _∷_ (omega arith)
     (ap₂ _∷_ (omega arith) refl)))))))
 
+up-byte : (v : ℕ) → v < 2 ^ 32 → up 8 v ≡ v % 2 ^ 24 * 2 ^ 8
+unfolding up
+up-byte v h = omega arith
+
 -- b joined on top of the register, and eight zero bits
 pub crc-byte : (r b : ℕ) → r < 2 ^ 32 → b < 256 → shiftAll (bitXor r (b * 2 ^ 24 % 2 ^ 32)) (replicate 8 0) ≡ crcFrom r (b ∷ [])
 unfolding up crcFrom
@@ -49,12 +53,47 @@ crc-byte r b hr hb =
     let m : up 8 v ≡ 0 = omega arith in
     joined 8 r v hr (omega arith) ∙ rw (m, xor-zero-r, t)
 
+zero-byte : bitsOf (0 ∷ []) ≡ replicate 8 0
+unfolding bitsOf
+zero-byte = refl
+
+-- a zero byte into the register with v joined to it: v's highest byte b comes in, and v moves up
+joined-byte : (r v b v' : ℕ) (s : List ℕ) → r < 2 ^ 32 → v < 2 ^ 32 → v' < 2 ^ 32 → v * 2 ^ 8 ≡ b * 2 ^ 32 + v'
+    → crcFrom (bitXor r v) (0 ∷ s) ≡ crcFrom (bitXor (crcFrom r (b ∷ [])) v') s
+unfolding crcFrom
+joined-byte r v b v' s hr hv hv' e =
+    let t : v / 2 ^ 24 ≡ b = omega arith in
+    let u : v % 2 ^ 24 * 2 ^ 8 ≡ v' = omega arith in
+    crc-append (bitXor r v) (0 ∷ []) s
+    ∙ ap (λ (x : ℕ). crcFrom x s)
+    (ap (shiftAll (bitXor r v)) zero-byte ∙ joined 8 r v hr hv ∙ rw (up-byte v hv, u, top-byte v b hv t))
+
+-- four bytes are their number joined to the register, and four zero bytes
+pub crc-four : (r a b c d : ℕ) → r < 2 ^ 32 → a < 256 → b < 256 → c < 256 → d < 256
+    → crcFrom r (a ∷ b ∷ c ∷ d ∷ []) ≡ crcFrom (bitXor r (a * 2 ^ 24 + b * 2 ^ 16 + c * 2 ^ 8 + d)) (0 ∷ 0 ∷ 0 ∷ 0 ∷ [])
+unfolding crcFrom bitsOf shiftAll
+crc-four r a b c d hr ha hb hc hd =
+    let v = a * 2 ^ 24 + b * 2 ^ 16 + c * 2 ^ 8 + d in
+    let v₁ = b * 2 ^ 24 + c * 2 ^ 16 + d * 2 ^ 8 in
+    let v₂ = c * 2 ^ 24 + d * 2 ^ 16 in
+    let v₃ = d * 2 ^ 24 in
+    let r₁ = crcFrom r (a ∷ []) in
+    let r₂ = crcFrom r₁ (b ∷ []) in
+    let r₃ = crcFrom r₂ (c ∷ []) in
+    let h₁ = crc-lt r (a ∷ []) hr in
+    let h₂ = crc-lt r₁ (b ∷ []) h₁ in
+    let h₃ = crc-lt r₂ (c ∷ []) h₂ in
+    sym
+    (joined-byte r v a v₁ (0 ∷ 0 ∷ 0 ∷ []) hr (omega arith) (omega arith) (omega arith)
+    ∙ joined-byte r₁ v₁ b v₂ (0 ∷ 0 ∷ []) h₁ (omega arith) (omega arith) (omega arith)
+    ∙ joined-byte r₂ v₂ c v₃ (0 ∷ []) h₂ (omega arith) (omega arith) (omega arith)
+    ∙ joined-byte r₃ v₃ d 0 [] h₃ (omega arith) (omega arith) (omega arith)
+    ∙ xor-zero-r (crcFrom r₃ (d ∷ [])))
+
 -- the register's own highest byte moves it up
 own-byte : (r b : ℕ) (s : List ℕ) → r < 2 ^ 32 → r / 2 ^ 24 ≡ b → {x : ℕ} → crcFrom (r % 2 ^ 24 * 2 ^ 8) s ≡ x → crcFrom r (b ∷ s) ≡ x
-unfolding up crcFrom
-own-byte r b s h e rest =
-    let m : up 8 r ≡ r % 2 ^ 24 * 2 ^ 8 = omega arith in
-    rw (crc-append r (b ∷ []) s, ← top-byte r b h e, own, m) rest
+unfolding crcFrom
+own-byte r b s h e rest = rw (crc-append r (b ∷ []) s, ← top-byte r b h e, own, up-byte r h) rest
 
 -- the register's own four bytes, highest first
 unfoldable pub bytesOf : ℕ → List ℕ

@@ -2,4 +2,5 @@
 pub mod Xor
 pub mod Linear
 pub mod Laws
-pub mod Determined
+pub mod Turns
+pub mod Folding

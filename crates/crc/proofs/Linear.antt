@@ -41,7 +41,7 @@ bits-differ = bit-cases _ (bit-cases _ refl refl) (bit-cases _ refl refl)
 joined-bit : (r v : ℕ) → r < 2 ^ 32 → v < 2 ^ 32 → shift (bitXor r v) 0 ≡ bitXor (shift r (v / 2 ^ 31)) (v * 2 % 2 ^ 32)
 unfolding shift
 joined-bit r v hr hv =
-    rw (xor-double r v, xor-shr r v 31, bits-differ (r / 2 ^ 31) (omega arith) (v / 2 ^ 31) (omega arith))
+    rw (xor-double 32 r v, xor-shr r v 31, bits-differ (r / 2 ^ 31) (omega arith) (v / 2 ^ 31) (omega arith))
     (either (eqb (r / 2 ^ 31) (v / 2 ^ 31)) (r * 2 % 2 ^ 32) (v * 2 % 2 ^ 32))
   where
     either : (t : Bool) (a w : ℕ) → cond t (bitXor a w) (bitXor (bitXor a w) polynomial) ≡ bitXor (cond t a (bitXor a polynomial)) w

@@ -1,4 +1,4 @@
--- Laws of xor on ℕ that lib.Bits lacks: operands change places, and doubling in 32 bits passes through.
+-- Laws of xor on ℕ that lib.Bits lacks: operands change places, and a move up passes through.
 -- Bit by bit: a number is its half and its lowest bit, and a fact of single bits holds at 0 and at 1 by computation.
 use mathlib.Core.Path.{_≡_, refl, sym, ap, ap₂, _∙_}
 use Prim.Native.Nat.{ℕ, zero, suc, _+_, _*_, _/_, _%_, _^_, _<_}
@@ -35,10 +35,18 @@ xor-swap =
     ∙ ap₂ (λ (x y : ℕ). x * 2 + y) (ih (b / 2) (c / 2)) (bits-swap (a % 2) (omega arith) (b % 2) (omega arith) (c % 2) (omega arith))
     ∙ sym (xor-step₃ a c b))
 
-pub xor-double : (a b : ℕ) → bitXor a b * 2 % 2 ^ 32 ≡ bitXor (a * 2 % 2 ^ 32) (b * 2 % 2 ^ 32)
-xor-double a b =
-    ap (λ (x : ℕ). x % 2 ^ 32)
-    (sym (add-zero (bitXor a b * 2))
-    ∙ sym (xor-block 1 a b 0 0 (pow-pos 1) (pow-pos 1))
-    ∙ ap₂ bitXor (add-zero (a * 2)) (add-zero (b * 2)))
-    ∙ xor-mod (a * 2) (b * 2) 32
+pub xor-assoc : (a b c : ℕ) → bitXor (bitXor a b) c ≡ bitXor a (bitXor b c)
+xor-assoc a b c = ap (λ (x : ℕ). bitXor x c) (xor-comm a b) ∙ xor-swap b a c ∙ xor-comm (bitXor b c) a
+
+pub xor-pairs : (a b c d : ℕ) → bitXor (bitXor a b) (bitXor c d) ≡ bitXor (bitXor a c) (bitXor b d)
+xor-pairs a b c d =
+    sym (xor-assoc (bitXor a b) c d) ∙ ap (λ (x : ℕ). bitXor x d) (xor-swap a b c) ∙ xor-assoc (bitXor a c) b d
+
+pub xor-shl : (k a b : ℕ) → bitXor a b * 2 ^ k ≡ bitXor (a * 2 ^ k) (b * 2 ^ k)
+xor-shl k a b =
+    sym (add-zero (bitXor a b * 2 ^ k))
+    ∙ sym (xor-block k a b 0 0 (pow-pos k) (pow-pos k))
+    ∙ ap₂ bitXor (add-zero (a * 2 ^ k)) (add-zero (b * 2 ^ k))
+
+pub xor-double : (w a b : ℕ) → bitXor a b * 2 % 2 ^ w ≡ bitXor (a * 2 % 2 ^ w) (b * 2 % 2 ^ w)
+xor-double w a b = ap (λ (x : ℕ). x % 2 ^ w) (xor-shl 1 a b) ∙ xor-mod (a * 2) (b * 2) w

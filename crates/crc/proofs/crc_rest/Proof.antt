@@ -1,4 +1,4 @@
--- `crc::crc_from` meets its contract: what is left of s makes of the register what s makes of the start.
+-- `crc::crc_rest` meets its contract: what is left of s makes of the register what s makes of the start.
 use mathlib.Core.Path.{_≡_}
 use Prim.Native.Nat.{_-_, _^_, _≤_, _<_}
 use native.Mathlib.Numerals.{add-one}
@@ -8,14 +8,14 @@ use lib.Seq.{drop-cons, drop-length}
 use borrow.Author.Needs.{needs}
 use Rattle.rules.specs.Crc.{crcFrom}
 use Rattle.crc.proofs.Laws.{crc-nil, crc-append}
-use Rattle.crc.proofs.crc_from.Statement.{statement}
-use Rattle.crc.proofs.crc_from.Tie as tie
+use Rattle.crc.proofs.crc_rest.Statement.{statement}
+use Rattle.crc.proofs.crc_rest.Tie as tie
 
 abbrev Inv-loop : tie.InvT-loop
-Inv-loop start s reg₀ i₀ reg i = (i ≤ length s) × (reg < 2 ^ 32) × (crcFrom reg (drop i s) ≡ crcFrom start s)
+Inv-loop start s from reg₀ i₀ reg i = (i ≤ length s) × (reg < 2 ^ 32) × (crcFrom reg (drop i s) ≡ crcFrom start (drop from s))
 
 abbrev μ-loop : tie.MeasureT-loop
-μ-loop start s reg₀ i₀ reg i = length s - i
+μ-loop start s from reg₀ i₀ reg i = length s - i
 
 loop-holds : tie.Need-loop-holds Inv-loop μ-loop
 loop-holds c = search needs
@@ -45,8 +45,8 @@ returns c =
     let e : l .i ≡ length (c .before .before .before .args .s .now) = omega arith in
     rw (e, drop-length, crc-nil) at (l .inv .2)
 
-pub crc-from-spec : {M : Type 1} → statement M
-crc-from-spec =
+pub crc-rest-spec : {M : Type 1} → statement M
+crc-rest-spec =
     tie.close
     (tie.spec
     Inv-loop
