@@ -4,3 +4,4 @@ pub mod Linear
 pub mod Laws
 pub mod Turns
 pub mod Folding
+pub mod Times

@@ -51,7 +51,7 @@ fn crc_rest(start: u32, s: &[u8], from: usize) -> u32
 // not reduced again, so they have up to 39 bits.
 
 fn times_64(k: u8) -> u64
-    ensures { λ r. ⌜ Folded (k) r ⌝ }
+    ensures { λ r. ⌜ Folded (k * 2 ^ 0) r ⌝ }
 {
     let mut r = (k as u64) << 56;
     for _ in 0..8u32 {
