@@ -53,9 +53,9 @@ folded-joined {a} {b} {x} {y} ha hb f g =
     record {
       small = xor-lt 40 x y hx hy;
       same =
-        residue-joined x y (omega arith) (omega arith)
-        ∙ rw (f .same, g .same, residue-joined a b ha hb)
-        (sym (zeros-joined 8 (residue a) (residue b) (residue-lt a ha) (residue-lt b hb)));
+          residue-joined x y (omega arith) (omega arith)
+          ∙ rw (f .same, g .same, residue-joined a b ha hb)
+          (sym (zeros-joined 8 (residue a) (residue b) (residue-lt a ha) (residue-lt b hb)));
     }
 
 -- a number k on top of n
@@ -78,7 +78,7 @@ unfolding residue
 residue-halves e h l hl = rw (xor-shr e (h * 2 ^ 32 + l) 32, xor-mod e (h * 2 ^ 32 + l) 32, high h 32 hl, low h 32 hl) refl
 
 -- what was folded has no more than 40 bits, so of the upper half only the last byte is changed by it
-pub eight-joined : (e a b c d l : ℕ) → e < 2 ^ 40 → d < 256 → l < 2 ^ 32
+eight-joined : (e a b c d l : ℕ) → e < 2 ^ 40 → d < 256 → l < 2 ^ 32
     → four a b c (bitXor (e / 2 ^ 32) d) * 2 ^ 32 + bitXor (e % 2 ^ 32) l ≡ bitXor e (four a b c d * 2 ^ 32 + l)
 eight-joined e a b c d l he hd hl =
     let u = e / 2 ^ 32 in
@@ -91,6 +91,15 @@ eight-joined e a b c d l he hd hl =
     (ap (λ (x : ℕ). bitXor x (four a b c d * 2 ^ 32 + l)) (sym (split e 32))
     ∙ xor-block 32 u (four a b c d) (e % 2 ^ 32) l (omega arith) hl
     ∙ ap (λ (x : ℕ). x * 2 ^ 32 + bitXor (e % 2 ^ 32) l) (sym q))
+
+pub folded-eight : (e a b c d l : ℕ) {x y : ℕ} → e < 2 ^ 40 → a < 256 → b < 256 → c < 256 → d < 256 → l < 2 ^ 32
+    → Folded (bitXor (e % 2 ^ 32) l) x → Folded (four a b c (bitXor (e / 2 ^ 32) d) * 2 ^ 32) y
+    → Folded (bitXor e (four a b c d * 2 ^ 32 + l)) (bitXor x y)
+folded-eight e a b c d l he ha hb hc hd hl f g =
+    let n : bitXor (e % 2 ^ 32) l < 2 ^ 32 = xor-lt 32 (e % 2 ^ 32) l (omega arith) hl in
+    let k : bitXor (e / 2 ^ 32) d < 256 = xor-lt 8 (e / 2 ^ 32) d (omega arith) hd in
+    rw (eight-joined e a b c d l he hd hl) at
+    (folded-above 32 (four a b c (bitXor (e / 2 ^ 32) d)) n (omega arith) (omega arith) f g)
 
 -- ---- the bytes at a place
 
@@ -108,6 +117,10 @@ or-four a b c d ha hb hc hd =
 
 next : (s : List ℕ) (i j : ℕ) → i < length s → j ≡ i + 1 → drop i s ≡ getD s i 0 ∷ drop j s
 next s i j h e = rw (e, add-one, drop-cons s i 0)
+
+-- the register after all bytes of s, where those before the place i are folded into e
+abbrev pub after : List ℕ → ℕ → ℕ → ℕ
+after s e i = crcFrom (zeros 4 (residue (bitXor e (eightAt s i)))) (drop (i + 8) s)
 
 module _ (s : List ℕ) (bytes : (j : ℕ) → getD s j 0 < 256) where
   four-lt : (i : ℕ) → fourAt s i < 2 ^ 32
@@ -133,8 +146,7 @@ module _ (s : List ℕ) (bytes : (j : ℕ) → getD s j 0 < 256) where
       ∙ ap (λ (x : ℕ). crcFrom x (drop (i + 4) s)) (crc-four r a b c d hr (bytes i) (bytes (i + 1)) (bytes (i + 2)) (bytes (i + 3)))
 
   -- the next eight, where e stands for r with four zero bytes behind it
-  pub eight-next : (r e i : ℕ) → r < 2 ^ 32 → e < 2 ^ 64 → residue e ≡ zeros 4 r → i + 8 ≤ length s
-      → crcFrom r (drop i s) ≡ crcFrom (zeros 4 (residue (bitXor e (eightAt s i)))) (drop (i + 8) s)
+  eight-next : (r e i : ℕ) → r < 2 ^ 32 → e < 2 ^ 64 → residue e ≡ zeros 4 r → i + 8 ≤ length s → after s e i ≡ crcFrom r (drop i s)
   unfolding eightAt residue
   eight-next r e i hr he same h =
       let u = fourAt s i in
@@ -144,11 +156,29 @@ module _ (s : List ℕ) (bytes : (j : ℕ) → getD s j 0 < 256) where
       let j : i + 4 + 4 ≡ i + 8 = omega arith in
       let d : residue (u * 2 ^ 32 + l) ≡ bitXor (zeros 4 u) l =
       ap₂ (λ (x y : ℕ). bitXor (zeros 4 x) y) (high u 32 hl) (low u 32 hl) in
-      four-next r i hr (omega arith)
+      sym
+      (four-next r i hr (omega arith)
       ∙ four-next (zeros 4 (bitXor r u)) (i + 4) (zeros-lt 4 (bitXor r u) (xor-lt 32 r u hr hu)) (omega arith)
       ∙ ap₂ (λ (x y : ℕ). crcFrom (zeros 4 x) (drop y s))
       (ap (λ (x : ℕ). bitXor x l) (zeros-joined 4 r u hr hu)
       ∙ xor-assoc (zeros 4 r) (zeros 4 u) l
       ∙ ap₂ bitXor (sym same) (sym d)
       ∙ sym (residue-joined e (u * 2 ^ 32 + l) he (omega arith)))
-      j
+      j)
+
+  pub after-starts : (r e : ℕ) → r < 2 ^ 32 → e ≡ zeros 4 r → 8 ≤ length s → after s e 0 ≡ crcFrom r s
+  after-starts r e hr p h =
+      let he : e < 2 ^ 32 = rw p (zeros-lt 4 r hr) in
+      eight-next r e 0 hr (omega arith) (residue-small e he ∙ p) h
+
+  pub after-goes-on : (e e' i : ℕ) → e < 2 ^ 40 → Folded (bitXor e (eightAt s i)) e' → i + 16 ≤ length s → after s e' (i + 8) ≡ after s e i
+  unfolding eightAt
+  after-goes-on e e' i he f h =
+      let w = bitXor e (eightAt s i) in
+      let hu = four-lt i in
+      let hl = four-lt (i + 4) in
+      let hw : w < 2 ^ 64 = xor-lt 64 e (eightAt s i) (omega arith) (omega arith) in
+      let hr = residue-lt w hw in
+      let hs = f .small in
+      eight-next (zeros 4 (residue w)) e' (i + 8) (zeros-lt 4 (residue w) hr) (omega arith)
+      (f .same ∙ crc-append (residue w) (replicate 4 0) (replicate 4 0)) (omega arith)

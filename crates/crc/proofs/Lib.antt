@@ -5,3 +5,4 @@ pub mod Laws
 pub mod Turns
 pub mod Folding
 pub mod Times
+pub mod Determined

@@ -208,7 +208,7 @@ fn four_zeros(r: u32) -> u32
 }
 
 // The register after the eight bytes at a place, joined by what was folded before them.
-fn unfold(e: u64, s: &[u8], i: usize) -> u32
+fn unfolded(e: u64, s: &[u8], i: usize) -> u32
     requires { ⌜ i + 8 ≤ length (now s) ⌝ }
     ensures { λ r. ⌜ r ≡ zeros 4 (residue (bitXor e (eightAt (now (s .entry)) i))) ⌝ }
 {
@@ -232,7 +232,7 @@ pub fn crc_from(start: u32, s: &[u8]) -> u32
         e = fold(e, s, i);
         i += 8;
     }
-    crc_rest(unfold(e, s, i), s, i + 8)
+    crc_rest(unfolded(e, s, i), s, i + 8)
 }
 
 // The register after all bytes of s, from all ones. Over a section with its CRC it is 0.

@@ -1,11 +1,11 @@
--- `crc::unfold` meets its contract: the halves of the eight bytes' number, joined by what was folded.
+-- `crc::unfolded` meets its contract: the halves of the eight bytes' number, joined by what was folded.
 use Prim.Native.Nat.{_+_, _^_, _<_}
 use native.Mathlib.Omega.{arith}
 use borrow.Author.Needs.{needs}
 use Rattle.crc.specs.Folding.{fourAt, eightAt}
 use Rattle.crc.proofs.Folding.{residue-halves}
-use Rattle.crc.proofs.unfold.Statement.{statement}
-use Rattle.crc.proofs.unfold.Tie as tie
+use Rattle.crc.proofs.unfolded.Statement.{statement}
+use Rattle.crc.proofs.unfolded.Tie as tie
 
 cast-high : tie.Need-cast-high
 cast-high c = search needs
@@ -37,8 +37,8 @@ returns c =
     rw (c .four-zeros2 .ensures, c .before .four-zeros .ensures, c .before .before .before .word-at .ensures, l .ensures)
     (rw (residue-halves (a .e) (fourAt (a .s .now) (a .i)) (fourAt (a .s .now) (a .i + 4)) h))
 
-pub unfold-spec : {M : Type 1} → statement M
-unfold-spec =
+pub unfolded-spec : {M : Type 1} → statement M
+unfolded-spec =
     tie.close
     (tie.spec
     cast-high
