@@ -1,6 +1,6 @@
--- The product of a byte with what the polynomial leaves of a power: the byte stands on top of a register of 64 bits that eight
--- bits leave. Both sides of the law are joined from single bits, so it is enough to work it out at the powers of 2.
-use mathlib.Core.Path.{_≡_, refl, sym, ap, ap₂, _∙_}
+-- The product of a byte with what the polynomial leaves of a power stands for the byte at its place with eight zero bytes behind it.
+-- Both are joined from what they are at single bits, so it is enough to work the law out at the powers of 2.
+use mathlib.Core.Path.{_≡_, refl, sym, ap, _∙_}
 use mathlib.Core.List.{List, [], _∷_}
 use Prim.Native.Nat.{ℕ, zero, suc, _+_, _-_, _*_, _/_, _%_, _^_, _≤_, _<_}
 use native.Mathlib.Nat.{mod-lt, zero-mul, one-mul, lt-of-lt-of-le}
@@ -8,7 +8,7 @@ use native.Mathlib.Omega.{arith}
 use lib.Arith.{lt-one}
 use lib.Dec.{lit<, lit≤}
 use lib.Pow.{pow-pos, pow-mono, pow-lt, split, shl-lt, shr-lt}
-use lib.Bits.{bitXor, xor-lt, xor-shifted}
+use lib.Bits.{bitXor, xor-shifted}
 use borrow.Author.Tests.{eq-eqb, ne-eqb}
 use Rattle.rules.specs.Crc.{shift, bitsOf, shiftAll, crcFrom}
 use Rattle.crc.specs.Folding.{zeros, residue, Folded}
@@ -20,6 +20,7 @@ use Rattle.crc.proofs.Folding.{zeros-lt, residue-lt, folded-joined}
 unfoldable pub power : ℕ → ℕ
 power m = zeros 8 (residue (2 ^ m))
 
+-- k times that power: the byte leaves a register of 64 bits at the top, and the power comes in for each of its bits that is 1
 unfoldable pub times : ℕ → ℕ → ℕ
 times m k = turns 63 (power m) 8 (k * 2 ^ 56)
 

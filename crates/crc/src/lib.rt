@@ -47,8 +47,8 @@ fn crc_rest(start: u32, s: &[u8], from: usize) -> u32
 
 // ---- eight bytes at a time
 
-// The products of a byte with the powers x^64 to x^120: k times what the power leaves of itself under the polynomial. They are
-// not reduced again, so they have up to 39 bits.
+// The products of a byte with the powers x^64 to x^120: k times what the polynomial leaves of the power. They are not reduced again,
+// so they have up to 39 bits. The number stands in each loop, since only of a loop with a number the compiler makes a table.
 
 fn times_64(k: u8) -> u64
     ensures { λ r. ⌜ Folded (k * 2 ^ 0) r ⌝ }
@@ -170,6 +170,7 @@ fn word_at(s: &[u8], i: usize) -> u32
     (s[i] as u32) << 24 | (s[i + 1] as u32) << 16 | (s[i + 2] as u32) << 8 | s[i + 3] as u32
 }
 
+// The lower four of eight bytes folded, each by the power of its place.
 fn fold_low(w: u32) -> u64
     ensures { λ r. ⌜ Folded w r ⌝ }
 {
@@ -179,25 +180,22 @@ fn fold_low(w: u32) -> u64
         ^ times_88((w / 0x0100_0000) as u8)
 }
 
+// The upper four of eight bytes folded.
 fn fold_high(fourth: u8, third: u8, second: u8, first: u8) -> u64
     ensures { λ r. ⌜ Folded (four first second third fourth * 2 ^ 32) r ⌝ }
 {
     times_96(fourth) ^ times_104(third) ^ times_112(second) ^ times_120(first)
 }
 
-// The eight bytes at a place, joined by what was folded before them, folded in their turn.
+// The eight bytes at a place, joined by what was folded before them, folded in their turn. What was folded has 40 bits, so it
+// reaches up to the fourth byte.
 fn fold(e: u64, s: &[u8], i: usize) -> u64
     requires { ⌜ (e < 2 ^ 40) × (i + 8 ≤ length (now s)) ⌝ }
     ensures { λ r. ⌜ Folded (bitXor e (eightAt (now (s .entry)) i)) r ⌝ }
 {
-    let w = (e % 0x1_0000_0000) as u32 ^ word_at(s, i + 4);
-    fold_low(w)
-        ^ fold_high(
-            (e / 0x1_0000_0000) as u8 ^ s[i + 3],
-            s[i + 2],
-            s[i + 1],
-            s[i],
-        )
+    let low = (e % 0x1_0000_0000) as u32 ^ word_at(s, i + 4);
+    let fourth = (e / 0x1_0000_0000) as u8 ^ s[i + 3];
+    fold_low(low) ^ fold_high(fourth, s[i + 2], s[i + 1], s[i])
 }
 
 // Four zero bytes into the register.
@@ -226,6 +224,7 @@ pub fn crc_from(start: u32, s: &[u8]) -> u32
     if s.len() < 16 {
         return crc_rest(start, s, 0);
     }
+    // the start joins the first four bytes; with four zero bytes behind it, it joins the eight
     let mut e = four_zeros(start) as u64;
     let mut i: usize = 0;
     while 16 <= s.len() - i {

@@ -1,10 +1,10 @@
 -- `crc::crc_from` meets its contract: what was folded, with the next eight bytes and the rest of s, makes of a register what s makes of
 -- the start.
-use mathlib.Core.Path.{_≡_, refl, sym, ap, _∙_}
-use Prim.Native.Nat.{ℕ, _+_, _-_, _^_, _≤_, _<_}
+use mathlib.Core.Path.{_≡_, _∙_}
+use Prim.Native.Nat.{_+_, _-_, _^_, _≤_, _<_}
 use native.Mathlib.Omega.{arith}
 use borrow.Author.Needs.{needs}
-use lib.ListN.{length, drop}
+use lib.ListN.{length}
 use Rattle.rules.specs.Crc.{crcFrom}
 use Rattle.crc.proofs.Folding.{after, after-starts, after-goes-on}
 use Rattle.crc.proofs.crc_from.Statement.{statement}
