@@ -54,10 +54,10 @@ fn carriers_fair(index: u16, c: Carriers) -> bool
 pub fn carriers_step(b: &[u8], at: usize, index: u16) -> Skip
     ensures { λ r. ⌜ Stands (now (b .entry)) r (entry cds index (from (now (b .entry)) at)) ⌝ }
 {
-    if fields::room(b, at) < SIZE {
+    if fields::short(b, at, SIZE) {
         return Skip::Refused(8);
     }
-    let r = fields::part(b, at, SIZE);
+    let r = &b[at..at + SIZE];
     if carriers_zeros(r) {
         if carriers_fair(index, carriers_of(r)) {
             return fields::past_counted(b, at + SIZE, true);

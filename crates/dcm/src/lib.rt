@@ -63,10 +63,10 @@ fn range_fair(first: u16, r: Range) -> bool
 pub fn range_step(b: &[u8], at: usize, first: u16) -> Skip
     ensures { λ r. ⌜ Stands (now (b .entry)) r (entry dcm first (from (now (b .entry)) at)) ⌝ }
 {
-    if fields::room(b, at) < SIZE {
+    if fields::short(b, at, SIZE) {
         return Skip::Refused(8);
     }
-    if range_fair(first, range_of(fields::part(b, at, SIZE))) {
+    if range_fair(first, range_of(&b[at..at + SIZE])) {
         return Skip::At(at + SIZE);
     }
     Skip::Refused(10)

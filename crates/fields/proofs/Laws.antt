@@ -7,13 +7,14 @@ use mathlib.Core.Bool.{Bool, true, false}
 use mathlib.Core.List.{List, [], _∷_}
 use lib.ListN.{length, getD, take, drop, length-drop, drop-of-length-le, List·getD-eq-default}
 use lib.Seq.{getD-drop, drop-drop, drop-length, take-all, take-nil}
-use borrow.Author.Tests.{le-leb, lt-leb}
+use lib.Dec.{ltb}
+use borrow.Author.Tests.{le-leb, lt-leb, lt-ltb, le-ltb, ltb-true, ltb-false}
 use Rattle.rules.specs.Bytes.{Got, refused, got, unless, andThen, giving, byte, from}
 use Rattle.rules.specs.Descriptors.{descriptor, passed, counted}
 use Rattle.rules.specs.Layout.{Layout, Numbered, numbered, bare, entry, after, records, head}
 use Rattle.rules.proofs.Taken.{taken, bare-so}
 use Rattle.rules.proofs.Places.{from-from, from-length, same-place, descAt, behind}
-use Rattle.fields.specs.Place.{Left, left, no, leftOf, leftAt, inside, Stands}
+use Rattle.fields.specs.Place.{Left, left, no, leftOf, leftAt, inside, Stands, cutShort}
 use Rattle.fields.specs.declared.Skip.{Skip}
 use Rattle.fields.specs.declared.Skip.the-variants.{At, Refused}
 
@@ -35,6 +36,23 @@ module _ (b : List ℕ) (at n : ℕ) where
   pub part-none : length b < at → [] ≡ take n (from b at)
   unfolding from
   part-none h = rw (drop-of-length-le b {i = at} (omega arith), take-nil n)
+
+pub short-past : (len at n : ℕ) → n ≤ len → ltb (len - n) at ≡ ltb len (at + n)
+short-past len at n h = go (ltb (len - n) at) refl
+  where
+    go : (x : Bool) → ltb (len - n) at ≡ x → x ≡ ltb len (at + n)
+    go true e = let lt = ltb-true (len - n) at e in simp (lt-ltb len (at + n) (omega arith))
+    go false e = let le = ltb-false (len - n) at e in simp (le-ltb len (at + n) (omega arith))
+
+-- what the answer of `short` says
+module _ (b : List ℕ) (at n : ℕ) {x : Bool} (e : x ≡ cutShort b at n) where
+  pub too-short : x ≡ true → length b < at + n
+  unfolding cutShort
+  too-short t = ltb-true (length b) (at + n) (sym e ∙ t)
+
+  pub long-enough : x ≡ false → at + n ≤ length b
+  unfolding cutShort
+  long-enough f = ltb-false (length b) (at + n) (sym e ∙ f)
 
 -- ---- the cases of an answer
 

@@ -1,8 +1,10 @@
 -- What the code's places mean: a place in b stands for the bytes of b from there on.
-use Prim.Native.Nat.{ℕ, _≤_}
+use Prim.Native.Nat.{ℕ, _+_, _≤_}
 use mathlib.Core.Path.{_≡_}
+use mathlib.Core.Bool.{Bool}
 use mathlib.Core.List.{List}
 use lib.ListN.{length}
+use lib.Dec.{ltb}
 use Rattle.rules.specs.Bytes.{Got, refused, got, from}
 use Rattle.fields.specs.declared.Skip.{Skip}
 use Rattle.fields.specs.declared.Skip.the-variants.{At, Refused}
@@ -28,3 +30,7 @@ inside b (Refused n) = Unit
 pub record Stands {A : Type 0} (b : List ℕ) (r : Skip) (g : Got A) : Type 0 where
   pub means : leftAt b r ≡ leftOf g
   pub within : inside b r
+
+-- fewer than n bytes of b from a place on
+unfoldable pub cutShort : List ℕ → (at n : ℕ) → Bool
+cutShort b at n = ltb (length b) (at + n)

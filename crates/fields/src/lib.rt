@@ -1,14 +1,14 @@
 // Bytes, parts and descriptors at a place of a slice: every place and every length has an answer, and bytes can be put where
 // there is room. b is a section without its CRC, so what runs past b runs into the CRC: refusal 8.
 ghost use mathlib.Core.Path.{_≡_};
-ghost use Prim.Native.Nat.{_+_, _-_, _≤_};
+ghost use Prim.Native.Nat.{_+_, _≤_};
 ghost use lib.ListN.{length, take};
 ghost use Rattle.rules.specs.Bytes.{from};
 ghost use Rattle.rules.specs.Bytes as rule;
 ghost use Rattle.rules.specs.Descriptors.{descriptor, passed, counted};
 ghost use Rattle.rules.specs.Section.{lengthOf};
 ghost use Rattle.rules.specs.Holding as holding;
-ghost use Rattle.fields.specs.Place.{Stands};
+ghost use Rattle.fields.specs.Place.{Stands, cutShort};
 
 // Byte j, or 0 where there is none.
 pub fn byte(r: &[u8], j: usize) -> u8
@@ -20,14 +20,14 @@ pub fn byte(r: &[u8], j: usize) -> u8
     0
 }
 
-// How many bytes there are from a place on.
-pub fn room(b: &[u8], at: usize) -> usize
-    ensures { λ n. ⌜ n ≡ length (now (b .entry)) - at ⌝ }
+// Whether there are fewer than n bytes from a place on.
+pub fn short(b: &[u8], at: usize, n: usize) -> bool
+    ensures { λ x. ⌜ x ≡ cutShort (now (b .entry)) at n ⌝ }
 {
-    if at < b.len() {
-        return b.len() - at;
+    if b.len() < n {
+        return true;
     }
-    0
+    b.len() - n < at
 }
 
 // The n bytes at a place, or as many as there are.
@@ -79,12 +79,11 @@ pub enum Skip {
 pub fn past_one(b: &[u8], at: usize) -> Skip
     ensures { λ r. ⌜ Stands (now (b .entry)) r (descriptor (from (now (b .entry)) at)) ⌝ }
 {
-    let room = room(b, at);
-    if room < 2 {
+    if short(b, at, 2) {
         return Skip::Refused(8);
     }
     let n = b[at + 1] as usize;
-    if room - 2 < n {
+    if b.len() - (at + 2) < n {
         return Skip::Refused(8);
     }
     Skip::At(at + 2 + n)

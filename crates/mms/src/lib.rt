@@ -114,10 +114,10 @@ fn mode_fair(index: u16, m: Mode) -> bool
 pub fn mode_step(b: &[u8], at: usize, index: u16) -> Skip
     ensures { λ r. ⌜ Stands (now (b .entry)) r (entry mms index (from (now (b .entry)) at)) ⌝ }
 {
-    if fields::room(b, at) < SIZE {
+    if fields::short(b, at, SIZE) {
         return Skip::Refused(8);
     }
-    let r = fields::part(b, at, SIZE);
+    let r = &b[at..at + SIZE];
     if mode_zeros(r) {
         if mode_fair(index, mode_of(r)) {
             return fields::past_counted(b, at + SIZE, true);

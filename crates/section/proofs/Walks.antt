@@ -29,6 +29,9 @@ use Rattle.section.specs.declared.structure.Kind.the-variants.{Carriers,
 pub step-as : (k j : Kind) → k ≡ j → (index : ℕ) (b : List ℕ) (r : Skip) (bs : List ℕ) → Stands b r (entry (layoutOf j) index bs) → Stands b r (entry (layoutOf k) index bs)
 step-as k j e index b r bs s = subst (λ (x : Kind). Stands b r (entry (layoutOf x) index bs)) (sym e) s
 
+pub records-as : (k j : Kind) → k ≡ j → (count index : ℕ) (b : List ℕ) (r : Skip) (bs : List ℕ) → Stands b r (records (layoutOf j) count index bs) → Stands b r (records (layoutOf k) count index bs)
+records-as k j e count index b r bs s = subst (λ (x : Kind). Stands b r (records (layoutOf x) count index bs)) (sym e) s
+
 -- the limits keep an index below 65,536
 pub top : (k : Kind) (index : ℕ) (r : RecordOf k) → index < 65536 → layoutOf k .fair index r ≡ true → index + layoutOf k .takes r < 65536
 unfolding layoutOf cds carriersFair mms modeFair vcm dcm rangeFair

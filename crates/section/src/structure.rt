@@ -6,6 +6,7 @@ ghost use Rattle.rules.specs.Bytes.{from};
 ghost use Rattle.rules.specs.Layout.{entry, records};
 ghost use Rattle.fields.specs.Place.{Stands};
 ghost use Rattle.section.specs.Kinds.{layoutOf, outlineOf};
+ghost use Rattle.section.specs.declared.structure.Kind.the-variants as kind;
 ghost use Rattle.rules.specs.declared.Table.the-variants as table;
 use crate::header;
 use fields::Skip;
@@ -60,8 +61,8 @@ fn takes(k: Kind, b: &[u8], at: usize) -> u8
     }
 }
 
-// The place behind so many records, the first of them at a place and an index; or 8, 9, 10.
-pub fn past_records(k: Kind, b: &[u8], start: usize, first: u16, count: u8) -> Skip
+// One walk over so many records of any kind, the first of them at a place and an index.
+fn walk(k: Kind, b: &[u8], start: usize, first: u16, count: u8) -> Skip
     requires { ⌜ start ≤ length (now b) ⌝ }
     ensures { λ r. ⌜ Stands (now (b .entry)) r (records (layoutOf k) count first (from (now (b .entry)) start)) ⌝ }
 {
@@ -85,11 +86,54 @@ pub fn past_records(k: Kind, b: &[u8], start: usize, first: u16, count: u8) -> S
     Skip::At(at)
 }
 
+// The walk over each kind has a function to itself, so that the compiler makes a loop of each that knows its kind.
+
+fn past_carriers(b: &[u8], start: usize, first: u16, count: u8) -> Skip
+    requires { ⌜ start ≤ length (now b) ⌝ }
+    ensures { λ r. ⌜ Stands (now (b .entry)) r (records (layoutOf kind.Carriers) count first (from (now (b .entry)) start)) ⌝ }
+{
+    walk(Kind::Carriers, b, start, first, count)
+}
+
+fn past_modes(b: &[u8], start: usize, first: u16, count: u8) -> Skip
+    requires { ⌜ start ≤ length (now b) ⌝ }
+    ensures { λ r. ⌜ Stands (now (b .entry)) r (records (layoutOf kind.Modes) count first (from (now (b .entry)) start)) ⌝ }
+{
+    walk(Kind::Modes, b, start, first, count)
+}
+
+fn past_channels(b: &[u8], start: usize, first: u16, count: u8, included: u8) -> Skip
+    requires { ⌜ start ≤ length (now b) ⌝ }
+    ensures { λ r. ⌜ Stands (now (b .entry)) r (records (layoutOf (kind.Channels included)) count first (from (now (b .entry)) start)) ⌝ }
+{
+    walk(Kind::Channels(included), b, start, first, count)
+}
+
+fn past_ranges(b: &[u8], start: usize, first: u16, count: u8) -> Skip
+    requires { ⌜ start ≤ length (now b) ⌝ }
+    ensures { λ r. ⌜ Stands (now (b .entry)) r (records (layoutOf kind.Ranges) count first (from (now (b .entry)) start)) ⌝ }
+{
+    walk(Kind::Ranges, b, start, first, count)
+}
+
+// The place behind so many records, the first of them at a place and an index; or 8, 9, 10.
+pub fn past_records(k: Kind, b: &[u8], start: usize, first: u16, count: u8) -> Skip
+    requires { ⌜ start ≤ length (now b) ⌝ }
+    ensures { λ r. ⌜ Stands (now (b .entry)) r (records (layoutOf k) count first (from (now (b .entry)) start)) ⌝ }
+{
+    match k {
+        Kind::Carriers => past_carriers(b, start, first, count),
+        Kind::Modes => past_modes(b, start, first, count),
+        Kind::Channels(included) => past_channels(b, start, first, count, included),
+        Kind::Ranges => past_ranges(b, start, first, count),
+    }
+}
+
 // Of a VCM, by its head: 8, then 9.
 fn vcm_outline(b: &[u8]) -> Outline
     ensures { λ r. ⌜ r ≡ outlineOf table.Vcm (now (b .entry)) ⌝ }
 {
-    if fields::room(b, header::SIZE) < vcm::HEAD {
+    if fields::short(b, header::SIZE, vcm::HEAD) {
         return Outline::Refused(8);
     }
     let r = fields::part(b, header::SIZE, vcm::HEAD);
@@ -109,7 +153,7 @@ fn vcm_outline(b: &[u8]) -> Outline
 fn dcm_outline(b: &[u8]) -> Outline
     ensures { λ r. ⌜ r ≡ outlineOf table.Dcm (now (b .entry)) ⌝ }
 {
-    if fields::room(b, header::SIZE) < dcm::HEAD {
+    if fields::short(b, header::SIZE, dcm::HEAD) {
         return Outline::Refused(8);
     }
     let r = fields::part(b, header::SIZE, dcm::HEAD);

@@ -129,23 +129,17 @@ pub fn channel_of(r: &[u8]) -> Channel
 }
 
 // Type at most 1, video standard at most 4: else 10.
-fn channel_fair(c: Channel) -> bool
-    ensures { λ x. ⌜ x ≡ channelFair 0 c ⌝ }
+fn channel_fair(r: &[u8]) -> bool
+    ensures { λ x. ⌜ x ≡ channelFair 0 (channelOf (now (r .entry))) ⌝ }
 {
-    if 1 < c.kind {
+    let flags = fields::byte(r, 2);
+    if 1 < flags % 16 {
         return false;
     }
-    let s = c.signal;
-    match s {
-        Signal::Digital {
-            program: _,
-            mode: _,
-        } => true,
-        Signal::Analogue {
-            scrambled: _,
-            standard,
-        } => standard <= 4,
+    if flags / 16 % 2 == 0 {
+        return true;
     }
+    fields::byte(r, 6) % 16 <= 4
 }
 
 // The place behind the record at a place and, where the head says that they are included, behind its descriptors; or 8, 9, 10.
@@ -153,13 +147,16 @@ fn channel_fair(c: Channel) -> bool
 pub fn channel_step(b: &[u8], at: usize, included: u8) -> Skip
     ensures { λ r. ⌜ Stands (now (b .entry)) r (entry (vcm included) 0 (from (now (b .entry)) at)) ⌝ }
 {
-    if fields::room(b, at) < SIZE {
+    if fields::short(b, at, SIZE) {
         return Skip::Refused(8);
     }
-    let r = fields::part(b, at, SIZE);
+    let r = &b[at..at + SIZE];
     if channel_zeros(r) {
-        if channel_fair(channel_of(r)) {
-            return fields::past_counted(b, at + SIZE, included == 1);
+        if channel_fair(r) {
+            if included == 1 {
+                return fields::past_counted(b, at + SIZE, true);
+            }
+            return Skip::At(at + SIZE);
         }
         return Skip::Refused(10);
     }

@@ -1,26 +1,53 @@
 -- The tests are made in the order 8, 9, 10; then what is left is what the descriptors leave.
 use native.Mathlib.Omega.{arith}
+use denote.Ref.{now}
 use borrow.Author.Needs.{needs}
 use Rattle.rules.specs.Tables.{cds}
-use Rattle.fields.proofs.Laws.{bare-short, bare-zeros, bare-unfair, bare-here, step-no, step-so}
+use Rattle.fields.proofs.Laws.{part-whole, too-short, long-enough, bare-short, bare-zeros, bare-unfair, bare-here, step-no, step-so}
 use Rattle.cds.proofs.carriers_step.Statement.{statement}
 use Rattle.cds.proofs.carriers_step.Tie as tie
 
 returns : tie.Need-returns
 unfolding cds
-returns c = step-no cds _ _ _ _ (bare-short cds _ _ _ (omega arith))
+returns c = step-no cds _ _ _ _ (bare-short cds _ _ _ (omega (arith, too-short _ _ _ (c .before .short .ensures) (c .if1 .taken))))
+
+add-r : tie.Need-add-r
+add-r c = omega (arith, long-enough _ _ _ (c .before .short .ensures) (c .if1 .left))
+
+part-r-end : tie.Need-part-r-end
+part-r-end c = omega (arith, long-enough _ _ _ (c .before .short .ensures) (c .if1 .left))
+
+add-past-counted : tie.Need-add-past-counted
+add-past-counted c =
+    let f = c .before .before .before .before .before .before in
+    omega (arith, long-enough _ _ _ (f .before .short .ensures) (f .if1 .left))
 
 returns-2 : tie.Need-returns-2
 unfolding cds
-returns-2 c = step-so cds _ _ _ (bare-here cds _ _ _ (omega arith) (cc) (cc)) _ (c .past-counted .ensures)
+returns-2 c =
+    let f = c .before .before .before .before .before .before .before in
+    let a = f .before .before .before .args in
+    let h = long-enough _ _ _ (f .before .short .ensures) (f .if1 .left) in
+    let p = part-whole (now (a .b)) (a .at) 5 in
+    step-so cds _ _ _ (bare-here cds _ _ _ (omega (arith, h)) (cc) (cc)) _ (c .past-counted .ensures)
 
 returns-3 : tie.Need-returns-3
 unfolding cds
-returns-3 c = step-no cds _ _ _ _ (bare-unfair cds _ _ _ (omega arith) (cc) (cc))
+returns-3 c =
+    let f = c .before .before .before .before .before .before in
+    let a = f .before .before .before .args in
+    let h = long-enough _ _ _ (f .before .short .ensures) (f .if1 .left) in
+    let p = part-whole (now (a .b)) (a .at) 5 in
+    step-no cds _ _ _ _ (bare-unfair cds _ _ _ (omega (arith, h)) (cc) (cc))
 
 returns-4 : tie.Need-returns-4
 unfolding cds
-returns-4 c = step-no cds _ _ _ _ (bare-zeros cds _ _ _ (omega arith) (cc))
+returns-4 c =
+    let f = c .before .before .before in
+    let a = f .before .before .before .args in
+    let h = long-enough _ _ _ (f .before .short .ensures) (f .if1 .left) in
+    let p = part-whole (now (a .b)) (a .at) 5 in
+    step-no cds _ _ _ _ (bare-zeros cds _ _ _ (omega (arith, h)) (cc))
 
 pub carriers-step-spec : {M : Type 1} → statement M
 carriers-step-spec =
@@ -28,11 +55,14 @@ carriers-step-spec =
     (tie.spec
     (λ c κs. search needs)
     returns
-    (λ c κs. search needs)
-    (λ c κs. search needs)
-    (λ c κs. search needs)
-    (λ c κs. search needs)
+    add-r
     (λ c. search needs)
+    (λ c. search needs)
+    part-r-end
+    (λ c κs. search needs)
+    (λ c κs. search needs)
+    (λ c κs. search needs)
+    add-past-counted
     (λ c κs. search needs)
     returns-2
     returns-3

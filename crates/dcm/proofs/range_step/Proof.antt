@@ -1,23 +1,45 @@
 -- A range byte has no zero bits and no descriptors: 8, then 10, then the next byte.
 use native.Mathlib.Omega.{arith}
 use mathlib.Core.Path.{refl}
+use denote.Ref.{now}
 use borrow.Author.Needs.{needs}
 use Rattle.rules.specs.Tables.{dcm}
-use Rattle.fields.proofs.Laws.{stands-at, counted-not, bare-short, bare-unfair, bare-here, step-no, step-so}
+use Rattle.fields.proofs.Laws.{part-whole, too-short, long-enough, stands-at, counted-not, bare-short, bare-unfair, bare-here, step-no, step-so}
 use Rattle.dcm.proofs.range_step.Statement.{statement}
 use Rattle.dcm.proofs.range_step.Tie as tie
 
 returns : tie.Need-returns
 unfolding dcm
-returns c = step-no dcm _ _ _ _ (bare-short dcm _ _ _ (omega arith))
+returns c = step-no dcm _ _ _ _ (bare-short dcm _ _ _ (omega (arith, too-short _ _ _ (c .before .short .ensures) (c .if1 .taken))))
+
+add-range-of : tie.Need-add-range-of
+add-range-of c = omega (arith, long-enough _ _ _ (c .before .short .ensures) (c .if1 .left))
+
+part-range-of-end : tie.Need-part-range-of-end
+part-range-of-end c = omega (arith, long-enough _ _ _ (c .before .short .ensures) (c .if1 .left))
+
+add-behind : tie.Need-add-t12
+add-behind c =
+    let f = c .before .before .before .before in
+    omega (arith, long-enough _ _ _ (f .before .short .ensures) (f .if1 .left))
 
 returns-2 : tie.Need-returns-2
 unfolding dcm
-returns-2 c = step-so dcm _ _ _ (bare-here dcm _ _ _ (omega arith) refl (cc)) _ (stands-at _ _ _ _ (counted-not _ _ _ refl) (omega arith))
+returns-2 c =
+    let f = c .before .before .before .before in
+    let a = f .before .before .before .args in
+    let h = long-enough _ _ _ (f .before .short .ensures) (f .if1 .left) in
+    let p = part-whole (now (a .b)) (a .at) 1 in
+    step-so dcm _ _ _ (bare-here dcm _ _ _ (omega (arith, h)) refl (cc)) _ (stands-at _ _ _ _ (counted-not _ _ _ refl) (omega (arith, h)))
 
 returns-3 : tie.Need-returns-3
 unfolding dcm
-returns-3 c = step-no dcm _ _ _ _ (bare-unfair dcm _ _ _ (omega arith) refl (cc))
+returns-3 c =
+    let f = c .before .before .before .before in
+    let a = f .before .before .before .args in
+    let h = long-enough _ _ _ (f .before .short .ensures) (f .if1 .left) in
+    let p = part-whole (now (a .b)) (a .at) 1 in
+    step-no dcm _ _ _ _ (bare-unfair dcm _ _ _ (omega (arith, h)) refl (cc))
 
 pub range-step-spec : {M : Type 1} → statement M
 range-step-spec =
@@ -25,9 +47,12 @@ range-step-spec =
     (tie.spec
     (λ c κs. search needs)
     returns
-    (λ c κs. search needs)
-    (λ c κs. search needs)
-    (λ c κs. search needs)
+    add-range-of
     (λ c. search needs)
+    (λ c. search needs)
+    part-range-of-end
+    (λ c κs. search needs)
+    (λ c κs. search needs)
+    add-behind
     returns-2
     returns-3)

@@ -1,26 +1,79 @@
 -- The tests are made in the order 8, 9, 10; then what is left is what the descriptors leave, if they are included.
 use native.Mathlib.Omega.{arith}
+use mathlib.Core.Path.{_≡_, sym, subst}
+use mathlib.Core.Bool.{Bool, true, false}
+use lib.Dec.{eqb}
+use denote.Ref.{now}
 use borrow.Author.Needs.{needs}
+use borrow.Author.Tests.{eq-eqb, ne-eqb}
 use Rattle.rules.specs.Tables.{vcm, channelFair}
-use Rattle.fields.proofs.Laws.{bare-short, bare-zeros, bare-unfair, bare-here, step-no, step-so}
+use Rattle.fields.proofs.Laws.{part-whole, too-short, long-enough, stands-at, counted-not, bare-short, bare-zeros, bare-unfair, bare-here, step-no, step-so}
 use Rattle.vcm.proofs.channel_step.Statement.{statement}
 use Rattle.vcm.proofs.channel_step.Tie as tie
 
 returns : tie.Need-returns
 unfolding vcm
-returns c = step-no (vcm (c .before .before .before .args .included)) _ _ _ _ (bare-short (vcm (c .before .before .before .args .included)) _ _ _ (omega arith))
+returns c =
+    let l = vcm (c .before .before .before .args .included) in
+    step-no l _ _ _ _ (bare-short l _ _ _ (omega (arith, too-short _ _ _ (c .before .short .ensures) (c .if1 .taken))))
+
+add-r : tie.Need-add-r
+add-r c = omega (arith, long-enough _ _ _ (c .before .short .ensures) (c .if1 .left))
+
+part-r-end : tie.Need-part-r-end
+part-r-end c = omega (arith, long-enough _ _ _ (c .before .short .ensures) (c .if1 .left))
+
+add-past-counted : tie.Need-add-past-counted
+add-past-counted c =
+    let f = c .before .before .before .before .before .before in
+    omega (arith, long-enough _ _ _ (f .before .short .ensures) (f .if1 .left))
 
 returns-2 : tie.Need-returns-2
 unfolding vcm channelFair
-returns-2 c = step-so (vcm (c .before .before .before .before .before .before .before .before .before .before .args .included)) _ _ _ (bare-here (vcm (c .before .before .before .before .before .before .before .before .before .before .args .included)) _ _ _ (omega arith) (cc) (cc)) _ (c .past-counted .ensures)
+returns-2 c =
+    let f = c .before .before .before .before .before .before .before in
+    let a = f .before .before .before .args in
+    let h = long-enough _ _ _ (f .before .short .ensures) (f .if1 .left) in
+    let p = part-whole (now (a .b)) (a .at) 9 in
+    let l = vcm (a .included) in
+    step-so l _ _ _ (bare-here l _ _ _ (omega (arith, h)) (cc) (cc)) _
+    (rw (eq-eqb (a .included) 1 (c .before .if4 .taken)) (c .past-counted .ensures))
+
+add-behind : tie.Need-add-t14
+add-behind c =
+    let f = c .before .before .before .before .before .before in
+    omega (arith, long-enough _ _ _ (f .before .short .ensures) (f .if1 .left))
 
 returns-3 : tie.Need-returns-3
 unfolding vcm channelFair
-returns-3 c = step-no (vcm (c .before .before .before .before .before .before .before .before .before .args .included)) _ _ _ _ (bare-unfair (vcm (c .before .before .before .before .before .before .before .before .before .args .included)) _ _ _ (omega arith) (cc) (cc))
+returns-3 c =
+    let f = c .before .before .before .before .before .before in
+    let a = f .before .before .before .args in
+    let h = long-enough _ _ _ (f .before .short .ensures) (f .if1 .left) in
+    let p = part-whole (now (a .b)) (a .at) 9 in
+    let l = vcm (a .included) in
+    step-so l _ _ _ (bare-here l _ _ _ (omega (arith, h)) (cc) (cc)) _
+    (stands-at _ _ _ _ (counted-not _ _ _ (ne-eqb (a .included) 1 (c .if4 .left))) (omega (arith, h)))
 
 returns-4 : tie.Need-returns-4
+unfolding vcm channelFair
+returns-4 c =
+    let f = c .before .before .before .before .before in
+    let a = f .before .before .before .args in
+    let h = long-enough _ _ _ (f .before .short .ensures) (f .if1 .left) in
+    let p = part-whole (now (a .b)) (a .at) 9 in
+    let l = vcm (a .included) in
+    step-no l _ _ _ _ (bare-unfair l _ _ _ (omega (arith, h)) (cc) (cc))
+
+returns-5 : tie.Need-returns-5
 unfolding vcm
-returns-4 c = step-no (vcm (c .before .before .before .before .before .before .args .included)) _ _ _ _ (bare-zeros (vcm (c .before .before .before .before .before .before .args .included)) _ _ _ (omega arith) (cc))
+returns-5 c =
+    let f = c .before .before .before in
+    let a = f .before .before .before .args in
+    let h = long-enough _ _ _ (f .before .short .ensures) (f .if1 .left) in
+    let p = part-whole (now (a .b)) (a .at) 9 in
+    let l = vcm (a .included) in
+    step-no l _ _ _ _ (bare-zeros l _ _ _ (omega (arith, h)) (cc))
 
 pub channel-step-spec : {M : Type 1} → statement M
 channel-step-spec =
@@ -28,12 +81,16 @@ channel-step-spec =
     (tie.spec
     (λ c κs. search needs)
     returns
-    (λ c κs. search needs)
-    (λ c κs. search needs)
-    (λ c κs. search needs)
-    (λ c κs. search needs)
+    add-r
     (λ c. search needs)
+    (λ c. search needs)
+    part-r-end
+    (λ c κs. search needs)
+    (λ c κs. search needs)
+    add-past-counted
     (λ c κs. search needs)
     returns-2
+    add-behind
     returns-3
-    returns-4)
+    returns-4
+    returns-5)
