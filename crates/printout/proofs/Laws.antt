@@ -6,21 +6,22 @@ use native.Mathlib.Omega.{arith}
 use mathlib.Core.Path.{_≡_, refl, sym, ap, _∙_}
 use mathlib.Core.Bool.{Bool, true, false}
 use mathlib.Core.List.{List, [], _∷_, _++_, flatten, append-nil, append-assoc}
-use lib.Dec.{leb}
-use lib.ListN.{length, length-append}
-use borrow.Author.Tests.{leb-true, leb-false}
+use lib.Dec.{leb, ltb}
+use lib.ListN.{length, getD, replicate, length-append, length-replicate, getD-replicate, List·getD-eq-default}
+use borrow.Author.Tests.{leb-true, leb-false, ltb-true, ltb-false}
 use Rattle.rules.specs.Tuning.{tune}
 use Rattle.rules.specs.Lineup.{channelLine, channelLines, linesOf}
 use Rattle.rules.specs.declared.State.{State}
 use Rattle.rules.specs.declared.Tuned.{Tuned}
 use Rattle.rules.specs.declared.Tuned.the-variants as Tuned
+use Rattle.search.specs.Listing.{Blank}
 use Rattle.tuner.specs.Checks.{checks}
 use Rattle.tuner.proofs.Laws.{refused-early, refused-high, refused-late}
 use Rattle.text.specs.Written.{Wrote, Counts}
 use Rattle.text.proofs.Written.{then, counts}
 use Rattle.text.proofs.Lines.{nothing}
 use Rattle.printout.specs.declared.Lines.{Lines}
-use Rattle.printout.specs.Lines.{boxOf, Adds}
+use Rattle.printout.specs.Lines.{boxOf, Adds, Below}
 
 -- ---- one channel more
 
@@ -38,13 +39,6 @@ flatten-append : (xs ys : List (List ℕ)) → flatten (xs ++ ys) ≡ flatten xs
 unfolding flatten
 flatten-append [] ys = refl
 flatten-append (x ∷ xs) ys = ap (λ (l : List ℕ). x ++ l) (flatten-append xs ys) ∙ sym (append-assoc x (flatten xs) (flatten ys))
-
--- the lines of the channels below `number` are written and counted
-pub record Below (tuned : ℕ → Tuned) (number : ℕ) (out out' : List ℕ) (r : Lines) : Type 0 where
-  pub wrote : Wrote out 0 (flatten (channelLines tuned number 0)) out' (r .size)
-  pub count : r .count ≡ length (channelLines tuned number 0)
-  pub short : r .size ≤ number * 289
-  pub few : r .count ≤ number
 
 pub below-0 : (tuned : ℕ → Tuned) (out : List ℕ) → Below tuned 0 out out (record { count = 0; size = 0 })
 unfolding channelLines flatten
@@ -115,3 +109,15 @@ none-written s store out e = (rw e (nothing out 0 (omega arith)), (rw e, (omega 
 pub all-written : (s : State) (store out out' : List ℕ) (number : ℕ) (r : Lines) → number ≡ 4096 → Below (tune s store) number out out' r → AllLines s store out out' r
 unfolding linesOf boxOf
 all-written s store out out' number r e b = (rw e at (b .wrote), (rw e at (b .count), counts (b .wrote)))
+
+-- ---- listings
+
+-- entries that are all 0 name nothing
+pub blank : (n : ℕ) (l : List ℕ) → l ≡ replicate n 0 → Blank l
+blank n l e = record { none = λ x. go x (ltb x n) refl }
+  where
+    go : (x : ℕ) (b : Bool) → ltb x n ≡ b → getD l x 0 ≡ 0
+    go x true q = ap (λ (k : List ℕ). getD k x 0) e ∙ getD-replicate n x 0 0 (ltb-true x n q)
+    go x false q =
+        let h : length l ≤ x = omega (arith, ap length e, length-replicate {A = ℕ} n 0, ltb-false x n q) in
+        List·getD-eq-default l 0 h

@@ -1,11 +1,12 @@
 -- Lines written behind other lines, and counted.
-use Prim.Native.Nat.{ℕ, _+_, _≤_}
+use Prim.Native.Nat.{ℕ, _+_, _*_, _≤_}
 use mathlib.Core.Path.{_≡_}
 use mathlib.Core.List.{List, flatten}
 use lib.ListN.{length}
 use Rattle.rules.specs.Holding.{Box}
-use Rattle.rules.specs.Lineup.{heading, linesOf}
+use Rattle.rules.specs.Lineup.{heading, linesOf, channelLines}
 use Rattle.rules.specs.declared.State.{State}
+use Rattle.rules.specs.declared.Tuned.{Tuned}
 use Rattle.stream.specs.declared.Tally.{Tally}
 use Rattle.text.specs.Written.{Wrote}
 use Rattle.printout.specs.declared.Lines.{Lines}
@@ -23,3 +24,10 @@ pub record Adds (more : List (List ℕ)) (out : List ℕ) (a : Lines) (out' : Li
   pub count : r .count ≡ a .count + length more
   pub short : r .size ≤ a .size + 289
   pub one : length more ≤ 1
+
+-- the lines of the channels below `number` are written and counted
+pub record Below (tuned : ℕ → Tuned) (number : ℕ) (out out' : List ℕ) (r : Lines) : Type 0 where
+  pub wrote : Wrote out 0 (flatten (channelLines tuned number 0)) out' (r .size)
+  pub count : r .count ≡ length (channelLines tuned number 0)
+  pub short : r .size ≤ number * 289
+  pub few : r .count ≤ number

@@ -7,9 +7,12 @@ ghost use lib.ListN.{length};
 ghost use Rattle.rules.specs.Tuning.{tune};
 ghost use Rattle.rules.specs.Lineup.{channelLine, linesOf};
 ghost use Rattle.tuner.specs.Checks.{checks};
+ghost use Rattle.tuner.specs.Found.{AllListed};
 ghost use Rattle.text.specs.Written.{Wrote, Counts};
-ghost use Rattle.printout.specs.Lines.{boxOf, headingOf, Adds};
+ghost use Rattle.printout.specs.Lines.{boxOf, headingOf, Adds, Below};
 use rules::State;
+use rules::Table;
+use search::listing;
 use stream::Tally;
 
 // Room for 4,096 lines of 289 bytes, the longest if every number had 20 digits.
@@ -28,12 +31,23 @@ pub struct Printed {
 }
 
 // The line of one channel, if it has one, behind the lines so far.
-fn add_line(state: State, store: &[u8], out: &mut [u8], number: u16, lines: Lines) -> Lines
+fn add_line(
+    state: State,
+    store: &[u8],
+    ranges: &[u64],
+    channels: &[u64],
+    carriers: &[u64],
+    modes: &[u64],
+    out: &mut [u8],
+    number: u16,
+    lines: Lines,
+) -> Lines
     requires { ⌜ checks state (now store) ≡ 0 ⌝ }
+    requires { ⌜ AllListed state (now store) (now ranges) (now channels) (now carriers) (now modes) ⌝ }
     requires { ⌜ (lines .size + 289 ≤ length (now out)) × (lines .count ≤ number) ⌝ }
     ensures { λ r. ⌜ Adds (channelLine number (tune state (now (store .entry)) number)) (now (out .entry)) lines (now (out .exit)) r ⌝ }
 {
-    let tuned = tuner::look_up(state, store, number);
+    let tuned = tuner::look_up_listed(state, store, ranges, channels, carriers, modes, number);
     let more = text::lines_of(number, tuned);
     let size = text::channel_line(out, lines.size, number, tuned);
     Lines {
@@ -42,22 +56,58 @@ fn add_line(state: State, store: &[u8], out: &mut [u8], number: u16, lines: Line
     }
 }
 
+// The lines of all channels, by listings of the four tables, where the checks have passed.
+fn listed_lines(
+    state: State,
+    store: &[u8],
+    ranges: &[u64],
+    channels: &[u64],
+    carriers: &[u64],
+    modes: &[u64],
+    out: &mut [u8],
+) -> Lines
+    requires { ⌜ checks state (now store) ≡ 0 ⌝ }
+    requires { ⌜ AllListed state (now store) (now ranges) (now channels) (now carriers) (now modes) ⌝ }
+    requires { ⌜ length (now out) ≡ 1183744 ⌝ }
+    ensures { λ r. ⌜ Below (tune state (now (store .entry))) 4096 (now (out .entry)) (now (out .exit)) r ⌝ }
+{
+    let mut lines = Lines { count: 0, size: 0 };
+    let mut number = 0;
+    while number < 4096 {
+        lines = add_line(
+            state,
+            store,
+            ranges,
+            channels,
+            carriers,
+            modes,
+            out,
+            number,
+            lines,
+        );
+        number += 1;
+    }
+    lines
+}
+
 // The lines of all channels.
 pub fn channel_lines(state: State, store: &[u8], out: &mut [u8; 1183744]) -> Lines
     ensures { λ r. ⌜ Wrote (now (out .entry)) 0 (flatten (linesOf (boxOf state (now (store .entry))))) (now (out .exit)) (r .size) ⌝ }
     ensures { λ r. ⌜ r .count ≡ length (linesOf (boxOf state (now (store .entry)))) ⌝ }
     ensures { λ r. ⌜ Counts (r .size) (now (out .exit)) ⌝ }
 {
-    let mut lines = Lines { count: 0, size: 0 };
     if tuner::check(state, store) != 0 {
-        return lines;
+        return Lines { count: 0, size: 0 };
     }
-    let mut number = 0;
-    while number < 4096 {
-        lines = add_line(state, store, out, number, lines);
-        number += 1;
-    }
-    lines
+    let mut ranges = [0u64; 4096];
+    let mut channels = [0u64; 4096];
+    let mut carriers = [0u64; 256];
+    let mut modes = [0u64; 256];
+    listing::list_records(state, store, Table::Dcm, &mut ranges);
+    listing::list_records(state, store, Table::Vcm, &mut channels);
+    listing::list_records(state, store, Table::Cds, &mut carriers);
+    listing::list_records(state, store, Table::Mms, &mut modes);
+    listed_lines(state, store, &ranges, &channels, &carriers, &modes, out)
 }
 
 // The whole line-up of a tally: the first bytes of the one buffer, and behind them the first bytes of the other.

@@ -5,8 +5,8 @@ use Prim.Native.Nat.{ℕ, suc, _+_, _-_, _≤_, _<_}
 use native.Mathlib.Omega.{arith}
 use native.Mathlib.Numerals.{add-one}
 use native.Mathlib.Nat.{sub-zero}
-use mathlib.Core.Path.{_≡_, sym, ap, subst, _∙_}
-use mathlib.Core.Bool.{Bool, true, false}
+use mathlib.Core.Path.{_≡_, refl, sym, ap, subst, _∙_}
+use mathlib.Core.Bool.{Bool, true, false, cond}
 use mathlib.Core.List.{List, [], _∷_, _++_}
 use mathlib.Core.Option.{Option, none, some}
 use lib.ListN.{length, take}
@@ -107,18 +107,27 @@ module _ {R : Type 0} {l : Layout R} {test : Numbered R → Bool} {sec : ℕ →
       let q = ap (λ (x : List (Numbered R)). first test (x ++ sections sec (n - (i + 1)) (i + 1))) (sym (there h .is)) ∙ w .is in
       rw t at q
 
-  -- if not it is passed: m records are left then, the next of them with its index and at its place
-  pub pass : {m next place : ℕ} → left ≡ m + 1 → next ≡ index + l .takes (l .look (take (l .size) (from b at))) → counted (l .described) (from b (at + l .size)) ≡ got tt (from b place)
-      → test (numbered l index (from b at)) ≡ false → Within l test sec n i m next b place answer
+  -- and where it is passed m records are left, the next of them with its index and at its place: whatever is the first match of
+  -- these, it is the answer unless the record itself matches
+  pub onward : {m next place : ℕ} → left ≡ m + 1 → next ≡ index + l .takes (l .look (take (l .size) (from b at))) → counted (l .described) (from b (at + l .size)) ≡ got tt (from b place)
+      → (later : Option (Numbered R)) × Within l test sec n i m next b place later × (answer ≡ cond (test (numbered l index (from b at))) (some (numbered l index (from b at))) later)
   unfolding first
-  pass {m} {next} {place} f g s t =
+  onward {m} {next} {place} f g s =
       let o = one m f in
-      let q = ap (λ (x : List (Numbered R)). first test (x ++ sections sec (n - (i + 1)) (i + 1))) (sym (o .is)) ∙ w .is in
       let c : counted (l .described) (from b (at + l .size)) ≡ got tt (o .behind) = rw (← from-from b at (l .size)) (o .one .behind) in
       let same : o .behind ≡ from b place = cc (s, c) in
-      record {
+      let w' : Within l test sec n i m next b place (first test (o .others ++ sections sec (n - (i + 1)) (i + 1))) = record {
         rs = o .others;
         rest = w .rest;
         reads = rw g (ap (records l m (index + l .takes (l .look (take (l .size) (from b at))))) (sym same) ∙ o .more);
-        is = rw t at q;
-      }
+        is = refl;
+      } in
+      (_, w', sym (ap (λ (x : List (Numbered R)). first test (x ++ sections sec (n - (i + 1)) (i + 1))) (sym (o .is)) ∙ w .is))
+
+  -- so if it does not match the answer is theirs
+  pub pass : {m next place : ℕ} → left ≡ m + 1 → next ≡ index + l .takes (l .look (take (l .size) (from b at))) → counted (l .described) (from b (at + l .size)) ≡ got tt (from b place)
+      → test (numbered l index (from b at)) ≡ false → Within l test sec n i m next b place answer
+  pass {m} {next} {place} f g s t =
+      let o = onward f g s in
+      let q : answer ≡ o .0 = rw t at (o .2) in
+      subst (λ (x : Option (Numbered R)). Within l test sec n i m next b place x) (sym q) (o .1)

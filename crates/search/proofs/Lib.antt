@@ -1,3 +1,5 @@
 pub mod Bridge
 pub mod Laws
 pub mod Determined
+pub mod Marks
+pub mod Listed

@@ -18,6 +18,8 @@ use rules::Mode;
 use rules::State;
 use rules::Table;
 
+pub mod listing; // all records of a table at once
+
 // ---- where the records of a live section stand
 
 // Where they begin, at which index or channel, how many there are, and whether a channel record's descriptors are included.

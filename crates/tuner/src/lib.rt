@@ -1,12 +1,15 @@
 // From number to tuner: what a channel number is tuned to, or the number of the refusal. The checks that go for every channel (1,
-// 2, 15 and 16) are made by `check`; where they passed `look_up` looks channels up without making them again; `tune` is both.
+// 2, 15 and 16) are made by `check`; where they passed `look_up` and `look_up_listed` look channels up without making them
+// again; `tune` is check and look-up.
 ghost use mathlib.Core.Path.{_≡_};
 ghost use Prim.Native.Nat.{_<_};
 ghost use Rattle.rules.specs.Holding.{four, holdingOf};
-ghost use Rattle.rules.specs.Tuning.{allLive, isSection, placeReads, tableReads, allRead, plant, inReach, tuneSignal, tuneKhz, tuneCarrier, tuneChannel};
+ghost use Rattle.rules.specs.Tuning.{allLive, isSection, placeReads, tableReads, allRead, Plant, plant, inReach, tuneSignal, tuneKhz, tuneCarrier, tuneChannel};
 ghost use Rattle.rules.specs.Tuning as rule;
 ghost use Rattle.rules.specs.declared.Signal.the-variants as signal;
+ghost use Rattle.rules.specs.declared.Table.the-variants as table;
 ghost use Rattle.tuner.specs.Checks.{checks, Few};
+ghost use Rattle.tuner.specs.Found.{modeReference, CarrierIn, ModeIn, applicationOf, Listed, AllListed};
 use rules::Channel;
 use rules::Read;
 use rules::SectionHead;
@@ -17,6 +20,7 @@ use rules::Tuned;
 use search::CarrierFound;
 use search::ChannelFound;
 use search::ModeFound;
+use search::listing;
 
 // ---- the checks: 1, 2, 15 and 16
 
@@ -141,14 +145,13 @@ fn hidden(c: Channel) -> u8
     0
 }
 
-fn tune_digital(s: State, store: &[u8], c: Channel, khz: u32, program: u16, mode: u8) -> Tuned
-    requires { ⌜ checks s (now store) ≡ 0 ⌝ }
-    ensures { λ x. ⌜ x ≡ tuneSignal (plant s (now (store .entry))) c khz (signal.Digital program mode) ⌝ }
+// By what was found under a mode reference.
+fn tune_digital(c: Channel, khz: u32, program: u16, reference: u8, found: ModeFound) -> Tuned
+    ensures { λ x. ⌜ ((p : Plant) → ModeIn p reference found → x ≡ tuneSignal p c khz (signal.Digital program reference)) ⌝ }
 {
-    if mode == 0 {
+    if reference == 0 {
         return Tuned::Refused(21);
     }
-    let found = search::find_mode(s, store, mode);
     match found {
         ModeFound::Nothing => Tuned::Refused(21),
         ModeFound::At(mode) => Tuned::Digital {
@@ -162,14 +165,16 @@ fn tune_digital(s: State, store: &[u8], c: Channel, khz: u32, program: u16, mode
 }
 
 // On a frequency: nothing out of reach is handed to the tuner.
-fn tune_khz(s: State, store: &[u8], c: Channel, khz: u32) -> Tuned
-    requires { ⌜ checks s (now store) ≡ 0 ⌝ }
-    ensures { λ x. ⌜ x ≡ tuneKhz (plant s (now (store .entry))) c khz ⌝ }
+fn tune_khz(c: Channel, khz: u32, mode: ModeFound) -> Tuned
+    ensures { λ x. ⌜ ((p : Plant) → ModeIn p (modeReference (c .signal)) mode → x ≡ tuneKhz p c khz) ⌝ }
 {
     if in_reach(khz) {
         let signal = c.signal;
         return match signal {
-            Signal::Digital { program, mode } => tune_digital(s, store, c, khz, program, mode),
+            Signal::Digital {
+                program,
+                mode: reference,
+            } => tune_digital(c, khz, program, reference, mode),
             Signal::Analogue {
                 scrambled,
                 standard,
@@ -185,33 +190,82 @@ fn tune_khz(s: State, store: &[u8], c: Channel, khz: u32) -> Tuned
     Tuned::Refused(20)
 }
 
-fn tune_carrier(s: State, store: &[u8], c: Channel) -> Tuned
-    requires { ⌜ checks s (now store) ≡ 0 ⌝ }
-    ensures { λ x. ⌜ x ≡ tuneCarrier (plant s (now (store .entry))) c ⌝ }
+// By what was found under the references of a channel.
+fn tune_found(c: Channel, carrier: CarrierFound, mode: ModeFound) -> Tuned
+    ensures { λ x. ⌜ ((p : Plant) → CarrierIn p (c .carrier) carrier → ModeIn p (modeReference (c .signal)) mode → x ≡ tuneCarrier p c) ⌝ }
 {
     if c.carrier == 0 {
         return Tuned::Refused(19);
     }
-    let found = search::find_carrier(s, store, c.carrier);
-    match found {
+    match carrier {
         CarrierFound::Nothing => Tuned::Refused(19),
-        CarrierFound::At(khz) => tune_khz(s, store, c, khz),
+        CarrierFound::At(khz) => tune_khz(c, khz, mode),
+    }
+}
+
+// The mode that a channel refers to; an analogue one refers to none.
+fn mode_reference(c: Channel) -> u8
+    ensures { λ x. ⌜ x ≡ modeReference (c .signal) ⌝ }
+{
+    let signal = c.signal;
+    match signal {
+        Signal::Digital { program: _, mode } => mode,
+        Signal::Analogue {
+            scrambled: _,
+            standard: _,
+        } => 0,
     }
 }
 
 // An application channel needs no carrier.
+fn application(c: Channel) -> Tuned
+    ensures { λ x. ⌜ x ≡ applicationOf c ⌝ }
+{
+    Tuned::Application {
+        hidden: hidden(c),
+        path: c.path,
+        number: c.source,
+    }
+}
+
+// ---- a channel, by searching the tables
+
+// Reference 0 is not looked for.
+fn search_mode(s: State, store: &[u8], reference: u8) -> ModeFound
+    requires { ⌜ checks s (now store) ≡ 0 ⌝ }
+    ensures { λ x. ⌜ ModeIn (plant s (now (store .entry))) reference x ⌝ }
+{
+    if reference == 0 {
+        return ModeFound::Nothing;
+    }
+    search::find_mode(s, store, reference)
+}
+
 fn tune_channel(s: State, store: &[u8], c: Channel) -> Tuned
     requires { ⌜ checks s (now store) ≡ 0 ⌝ }
     ensures { λ x. ⌜ x ≡ tuneChannel (plant s (now (store .entry))) c ⌝ }
 {
     if c.application == 1 {
-        return Tuned::Application {
-            hidden: hidden(c),
-            path: c.path,
-            number: c.source,
-        };
+        return application(c);
     }
-    tune_carrier(s, store, c)
+    let carrier = search::find_carrier(s, store, c.carrier);
+    let mode = search_mode(s, store, mode_reference(c));
+    tune_found(c, carrier, mode)
+}
+
+// ---- a channel, by listings of the tables
+
+fn tune_listed(s: State, store: &[u8], carriers: &[u64], modes: &[u64], c: Channel) -> Tuned
+    requires { ⌜ Listed s (now store) table.Cds 256 (now carriers) ⌝ }
+    requires { ⌜ Listed s (now store) table.Mms 256 (now modes) ⌝ }
+    ensures { λ x. ⌜ x ≡ tuneChannel (plant s (now (store .entry))) c ⌝ }
+{
+    if c.application == 1 {
+        return application(c);
+    }
+    let carrier = listing::listed_carrier(store, carriers, c.carrier);
+    let mode = listing::listed_mode(store, modes, mode_reference(c));
+    tune_found(c, carrier, mode)
 }
 
 // ---- a channel number
@@ -229,6 +283,33 @@ pub fn look_up(state: State, store: &[u8], channel: u16) -> Tuned
         return match found {
             ChannelFound::Nothing => Tuned::Refused(18),
             ChannelFound::At(c) => tune_channel(state, store, c),
+        };
+    }
+    Tuned::Refused(17)
+}
+
+// The same by listings of the four tables, for those who ask every channel. The state is there for what is promised.
+pub fn look_up_listed(
+    state: State,
+    store: &[u8],
+    ranges: &[u64],
+    channels: &[u64],
+    carriers: &[u64],
+    modes: &[u64],
+    channel: u16,
+) -> Tuned
+    requires { ⌜ checks state (now store) ≡ 0 ⌝ }
+    requires { ⌜ AllListed state (now store) (now ranges) (now channels) (now carriers) (now modes) ⌝ }
+    ensures { λ x. ⌜ x ≡ rule.tune state (now (store .entry)) channel ⌝ }
+{
+    if 4095 < channel {
+        return Tuned::Refused(14);
+    }
+    if listing::listed_defined(store, ranges, channel) {
+        let found = listing::listed_channel(store, channels, channel);
+        return match found {
+            ChannelFound::Nothing => Tuned::Refused(18),
+            ChannelFound::At(c) => tune_listed(state, store, carriers, modes, c),
         };
     }
     Tuned::Refused(17)

@@ -1,53 +1,81 @@
--- After each turn the lines of the channels below are written and counted. Where the checks are not passed there are none.
-use Prim.Native.Nat.{_-_, _≤_}
+-- Where the checks are passed the four tables are listed, and the lines are those of the listings; else there are none.
 use native.Mathlib.Omega.{arith}
-use mathlib.Core.Path.{_≡_, refl, sym, _∙_}
-use lib.ListN.{length}
+use mathlib.Core.Path.{refl, sym, _∙_}
 use denote.Ref.{now}
 use borrow.Author.Needs.{needs}
-use Rattle.rules.specs.Tuning.{tune}
-use Rattle.printout.proofs.Laws.{Below, below-0, below-more, no-lines-of, none-written, all-written}
+use Rattle.rules.specs.declared.Table.the-variants.{Cds, Mms, Vcm, Dcm}
+use Rattle.tuner.proofs.Laws.{searchable}
+use Rattle.printout.proofs.Laws.{blank, no-lines-of, none-written, all-written}
 use Rattle.printout.proofs.channel_lines.Statement.{statement}
 use Rattle.printout.proofs.channel_lines.Tie as tie
 
-abbrev Inv-loop : tie.InvT-loop
-Inv-loop state store out₀ lines₀ number₀ out lines number = (number ≤ 4096) × (length out ≡ length out₀) × Below (tune state store) number out₀ out lines
-
-abbrev μ-loop : tie.MeasureT-loop
-μ-loop state store out₀ lines₀ number₀ out lines number = 4096 - number
-
-returns : tie.Need-returns Inv-loop μ-loop
+returns : tie.Need-returns
 returns c =
     let a = c .before .before .before .args in
     none-written (a .state) (now (a .store)) (now (a .out)) (no-lines-of (a .state) (now (a .store)) _ (c .before .check .ensures) (c .if1 .taken))
 
-add-line-requires : tie.Need-add-line-requires Inv-loop μ-loop
-add-line-requires c κs =
-    let l = c .before .before .loop .inv in
-    (sym (c .before .before .before .before .check .ensures) ∙ c .before .before .before .if1 .left, (omega (arith, l .2 .short, l .1, c .before .loop-test .taken), l .2 .few))
+list-records-requires : tie.Need-list-records-requires
+list-records-requires c κs =
+    let f = c .before in
+    let a = f .before .before .before .args in
+    (searchable (a .state) (now (a .store)) (sym (f .before .check .ensures) ∙ f .if1 .left) Dcm, blank 4096 _ refl)
 
-loop-again : tie.Need-loop-again Inv-loop μ-loop
-loop-again c =
-    let l = c .before .before .before .loop .inv in
-    (omega (arith, c .before .before .loop-test .taken), c .add-line .kept .1 .1 .0 ∙ l .1, below-more (l .2) (c .add-line .ensures))
+list-records-requires-2 : tie.Need-list-records-requires-2
+list-records-requires-2 c κs =
+    let f = c .before .before .before .before in
+    let a = f .before .before .before .args in
+    (searchable (a .state) (now (a .store)) (sym (f .before .check .ensures) ∙ f .if1 .left) Vcm, blank 4096 _ refl)
 
-returns-2 : tie.Need-returns-2 Inv-loop μ-loop
+list-records-requires-3 : tie.Need-list-records-requires-3
+list-records-requires-3 c κs =
+    let f = c .before .before .before .before .before .before .before in
+    let a = f .before .before .before .args in
+    (searchable (a .state) (now (a .store)) (sym (f .before .check .ensures) ∙ f .if1 .left) Cds, blank 256 _ refl)
+
+list-records-requires-4 : tie.Need-list-records-requires-4
+list-records-requires-4 c κs =
+    let f = c .before .before .before .before .before .before .before .before .before .before in
+    let a = f .before .before .before .args in
+    (searchable (a .state) (now (a .store)) (sym (f .before .check .ensures) ∙ f .if1 .left) Mms, blank 256 _ refl)
+
+listed-lines-requires : tie.Need-listed-lines-requires
+listed-lines-requires c κs =
+    let f = c .before .before .before .before .before .before .before .before .before .before .before .before .before .before .before .before .before in
+    let checked = sym (f .before .check .ensures) ∙ f .if1 .left in (
+      checked,
+      (
+        record {
+          ranges-listed = record { long = c .before .before .before .before .before .before .before .before .before .before .before .before .before .before .ranges2 .given; lists = c .before .before .before .before .before .before .before .before .before .before .before .before .before .before .before .list-records .ensures };
+          channels-listed = record { long = c .before .before .before .before .before .before .before .before .before .before .before .channels2 .given; lists = c .before .before .before .before .before .before .before .before .before .before .before .before .list-records2 .ensures };
+          carriers-listed = record { long = c .before .before .before .before .before .before .before .before .carriers2 .given; lists = c .before .before .before .before .before .before .before .before .before .list-records3 .ensures };
+          modes-listed = record { long = c .before .before .before .before .before .modes2 .given; lists = c .before .before .before .before .before .before .list-records4 .ensures };
+        },
+        search needs,
+      ),
+    )
+
+returns-2 : tie.Need-returns-2
 returns-2 c =
-    let l = c .before .loop in
-    let a = c .before .before .before .before .before .args in
-    all-written (a .state) (now (a .store)) (now (a .out)) (l .out) (l .number) (l .lines) (omega (arith, l .inv .0, c .loop-test .left)) (l .inv .2)
+    let a = c .before .before .before .before .before .before .before .before .before .before .before .before .before .before .before .before .before .before .before .before .before .args in
+    all-written (a .state) (now (a .store)) (now (a .out)) _ 4096 (c .listed-lines .result) refl (c .listed-lines .ensures)
 
 pub channel-lines-spec : {M : Type 1} → statement M
 channel-lines-spec =
     tie.close
     (tie.spec
-    Inv-loop
-    μ-loop
     (λ c κs. search needs)
     returns
-    (λ c. (omega arith, refl, below-0 (tune (c .before .before .before .args .state) (now (c .before .before .before .args .store))) (now (c .before .before .before .args .out))))
-    add-line-requires
+    (λ c. search needs)
+    list-records-requires
+    (λ c. search needs)
+    list-records-requires-2
+    (λ c. search needs)
+    list-records-requires-3
+    (λ c. search needs)
+    list-records-requires-4
     (λ c. search needs)
     (λ c. search needs)
-    loop-again
+    (λ c. search needs)
+    (λ c. search needs)
+    listed-lines-requires
     returns-2)
