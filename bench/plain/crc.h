@@ -5,29 +5,22 @@
 #include "bytes.h"
 #include "crc_tables.h"
 
-static inline uint32_t crc_of_eight(uint32_t crc, const uint8_t *bytes) {
-    uint64_t eight = load64(bytes) ^ crc;
-    return crc_table[7][eight & 255] ^ crc_table[6][eight >> 8 & 255] ^ crc_table[5][eight >> 16 & 255]
-         ^ crc_table[4][eight >> 24 & 255] ^ crc_table[3][eight >> 32 & 255] ^ crc_table[2][eight >> 40 & 255]
-         ^ crc_table[1][eight >> 48 & 255] ^ crc_table[0][eight >> 56];
-}
-
-static inline uint32_t crc_of_four(uint32_t crc, const uint8_t *bytes) {
-    uint32_t four = load32(bytes) ^ crc;
-    return crc_table[3][four & 255] ^ crc_table[2][four >> 8 & 255] ^ crc_table[1][four >> 16 & 255] ^ crc_table[0][four >> 24];
+/* The four bytes of `bytes` through four tables, the last of which is for the last byte. */
+static inline uint32_t looked_up(const uint32_t (*table)[256], uint32_t bytes) {
+    uint32_t upper = bytes >> 16;
+    return table[3][bytes & 255] ^ table[2][bytes >> 8 & 255] ^ table[1][upper & 255] ^ table[0][upper >> 8];
 }
 
 /* Over a whole section the register must be left 0. */
 static inline int crc_is_right(const uint8_t *bytes, size_t length) {
     uint32_t crc = 0xFFFFFFFF;
-    const uint8_t *end = bytes + length;
-    for (const uint8_t *whole = bytes + (length & ~(size_t)7); bytes < whole; bytes += 8)
-        crc = crc_of_eight(crc, bytes);
-    if (end - bytes >= 4) {
-        crc = crc_of_four(crc, bytes);
+    for (const uint8_t *behind = bytes + (length & ~(size_t)7); bytes < behind; bytes += 8)
+        crc = looked_up(crc_table + 4, load32(bytes) ^ crc) ^ looked_up(crc_table, load32(bytes + 4));
+    if (length & 4) {
+        crc = looked_up(crc_table, load32(bytes) ^ crc);
         bytes += 4;
     }
-    for (; bytes < end; bytes++)
+    for (const uint8_t *behind = bytes + (length & 3); bytes < behind; bytes++)
         crc = crc >> 8 ^ crc_table[0][(crc ^ *bytes) & 255];
     return crc == 0;
 }

@@ -20,23 +20,24 @@ static inline uint32_t refusal_of_frame(const uint8_t *section, size_t length) {
 }
 
 /* Bytes 0 to 6: 7, or 8 where its byte isn't there; then 8, 9 and 10 of the whole header. */
-static inline uint32_t refusal_of_header(const uint8_t *section, size_t length, uint32_t *table) {
-    size_t end = length - CRC_BYTES;
-    int network = section[0] == NETWORK_TABLE;
-    size_t medium = network ? 6 : 4;
-    if (end <= medium)
+static inline uint32_t refusal_of_network_header(const uint8_t *section, size_t length) {
+    if (length < HEADER + CRC_BYTES)
         return 8;
-    uint32_t subtype = network ? section[6] - 1u : section[4];
-    if (subtype > 1)
+    if (section[6] - 1u > 1)
         return 7;
-    if (end < HEADER)
-        return 8;
     if ((section[1] & 0xC0) | section[3])
         return 9;
-    if (network && section[4] == 0)
-        return 10;
-    *table = network ? CDS + subtype : VCM + subtype;
-    return 0;
+    return section[4] == 0 ? 10 : 0;
+}
+
+static inline uint32_t refusal_of_channel_header(const uint8_t *section, size_t length) {
+    if (length <= 4 + CRC_BYTES)
+        return 8;
+    if (section[4] > 1)
+        return 7;
+    if (length < HEADER + CRC_BYTES)
+        return 8;
+    return (section[1] & 0xC0) | section[3] ? 9 : 0;
 }
 
 /* The closing list, up to the CRC exactly: 8, and 11 behind all of it. */

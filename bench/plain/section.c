@@ -2,28 +2,30 @@
 
 #include "read.h"
 
-static inline uint32_t walk_records(struct walk *w, const uint8_t *section, uint32_t table) {
-    switch (table) {
-    case CDS:
-        return walk_cds(w, section, NOTHING_WANTED);
-    case MMS:
-        return walk_mms(w, section, NOTHING_WANTED);
-    case VCM:
-        return walk_vcm(w, section, NOTHING_WANTED);
-    default:
-        return walk_dcm(w, section, NOTHING_WANTED);
-    }
+/* Behind the frame: the header, and the records up to the closing list. */
+static inline uint32_t read_network_table(struct walk *w, const uint8_t *section, size_t length, uint32_t *table) {
+    uint32_t refusal = refusal_of_network_header(section, length);
+    if (refusal)
+        return refusal;
+    *table = section[6] - 1u;
+    return *table == CDS ? walk_cds(w, section, NOTHING_WANTED) : walk_mms(w, section, NOTHING_WANTED);
+}
+
+static inline uint32_t read_channel_table(struct walk *w, const uint8_t *section, size_t length, uint32_t *table) {
+    uint32_t refusal = refusal_of_channel_header(section, length);
+    if (refusal)
+        return refusal;
+    *table = VCM + section[4];
+    return *table == VCM ? walk_vcm(w, section, NOTHING_WANTED) : walk_dcm(w, section, NOTHING_WANTED);
 }
 
 static inline uint32_t read_section(const uint8_t *section, size_t length, struct section_head *head) {
     uint32_t refusal = refusal_of_frame(section, length);
     if (refusal)
         return refusal;
-    refusal = refusal_of_header(section, length, &head->table);
-    if (refusal)
-        return refusal;
     struct walk w = behind_header(section, length);
-    refusal = walk_records(&w, section, head->table);
+    refusal = section[0] == NETWORK_TABLE ? read_network_table(&w, section, length, &head->table)
+                                          : read_channel_table(&w, section, length, &head->table);
     if (refusal)
         return refusal;
     head->map = word(section + 5);

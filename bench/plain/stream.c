@@ -29,18 +29,22 @@ void plain_offer_rest(struct stream *stream, const uint8_t *bytes, size_t length
         offer(stream, bytes, length);
 }
 
-uint64_t plain_lineup(const uint8_t *input, size_t input_length, uint8_t *out, size_t out_length) {
+static size_t print_input(const uint8_t *input, size_t length, uint8_t *out) {
     static struct stream stream;
+    if (length < 2)
+        return plain_print_refused(out);
+    plain_start_stream(&stream, (uint16_t)word(input));
+    size_t taken = 2 + plain_offer_whole(&stream, input + 2, length - 2);
+    plain_offer_rest(&stream, input + taken, length - taken);
+    return plain_print_lineup(&stream, out);
+}
+
+/* Where any line-up has room it is written at once, else only when its length is known. */
+uint64_t plain_lineup(const uint8_t *input, size_t input_length, uint8_t *out, size_t out_length) {
     static uint8_t printed[MOST_LINEUP];
-    size_t length;
-    if (input_length < 2) {
-        length = plain_print_refused(printed);
-    } else {
-        plain_start_stream(&stream, (uint16_t)word(input));
-        size_t taken = 2 + plain_offer_whole(&stream, input + 2, input_length - 2);
-        plain_offer_rest(&stream, input + taken, input_length - taken);
-        length = plain_print_lineup(&stream, printed);
-    }
+    if (out_length >= MOST_LINEUP)
+        return print_input(input, input_length, out);
+    size_t length = print_input(input, input_length, printed);
     if (length > out_length)
         return 0;
     memcpy(out, printed, length);

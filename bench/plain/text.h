@@ -22,11 +22,11 @@ static const char digit_pairs[] = "000102030405060708091011121314151617181920212
                                   "40414243444546474849505152535455565758596061626364656667686970717273747576777879"
                                   "8081828384858687888990919293949596979899";
 
+/* n's bits give its digits or one more: 1233 / 4096 is just above log10(2). */
 static inline uint32_t digits_of(uint32_t n) {
-    uint32_t digits = 1;
-    for (uint64_t power = 10; n >= power; power *= 10)
-        digits++;
-    return digits;
+    static const uint32_t powers[] = {1, 10, 100, 1000, 10000, 100000, 1000000, 10000000, 100000000, 1000000000};
+    uint32_t most = (32 - (uint32_t)__builtin_clz(n)) * 1233 >> 12;
+    return most + (n >= powers[most]);
 }
 
 /* Two digits for each division, from the last ones on. */

@@ -32,12 +32,19 @@ static inline uint32_t walk_table(uint32_t table, struct walk *w, const uint8_t 
     }
 }
 
+/* By number and subtype, and a header that reads right. */
+static inline int is_of_table(const uint8_t *place, size_t length, uint32_t table) {
+    if (table < VCM)
+        return place[0] == NETWORK_TABLE && !refusal_of_network_header(place, length) && place[6] - 1u == table - CDS;
+    return place[0] == CHANNEL_TABLE && !refusal_of_channel_header(place, length) && place[4] == table - VCM;
+}
+
 /* Reads a live place as what it must be, and looks for what is wanted in the same pass: 0 where it no longer reads right. */
 static inline int read_place(const struct receiver *r, const uint8_t *place, uint32_t table, uint32_t number, uint32_t wanted,
                              struct walk *w) {
     struct section_head head;
     size_t length = stated_length(place);
-    if (refusal_of_frame(place, length) || refusal_of_header(place, length, &head.table) || head.table != table)
+    if (refusal_of_frame(place, length) || !is_of_table(place, length, table))
         return 0;
     *w = behind_header(place, length);
     if (walk_table(table, w, place, wanted) || read_closing_list(w, &head))

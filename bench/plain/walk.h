@@ -71,22 +71,23 @@ static inline uint32_t walk_cds(struct walk *w, const uint8_t *section, uint32_t
     return 0;
 }
 
-/* Bit n: inner coding n is assigned; bit n: system n is. */
-enum { INNER_CODINGS = 0x8BAB, SYSTEMS = 0x1D, MOST_FORMAT = 24 };
+/* A mode record's first byte, system and inner coding: whether both are assigned. */
+#define INNER_CODINGS {1, 1, 0, 1, 0, 1, 0, 1, 1, 1, 0, 1, 0, 0, 0, 1}
+static const uint8_t is_assigned[16][16] = {[0] = INNER_CODINGS, [2] = INNER_CODINGS, [3] = INNER_CODINGS, [4] = INNER_CODINGS};
+enum { MOST_FORMAT = 24 };
 
-static inline uint32_t refusal_of_mode(const uint8_t *record, int index_is_right) {
+static inline uint32_t refusal_of_mode(const uint8_t *record, uint32_t left) {
     if (load32(record) & bits_of_bytes(0, 0x60, 0xF0, 0))
         return 9;
-    int assigned = (record[1] & 0x1F) <= MOST_FORMAT && INNER_CODINGS >> (record[0] & 15) & 1 && SYSTEMS >> (record[0] >> 4) & 1;
-    return assigned && index_is_right ? 0 : 10;
+    return left == 0 || (record[1] & 0x1F) > MOST_FORMAT || !is_assigned[0][record[0]] ? 10 : 0;
 }
 
 static inline uint32_t walk_mms(struct walk *w, const uint8_t *section, uint32_t wanted) {
     uint32_t left = MOST_INDEX + 1u - section[4], ahead = wanted - section[4];
     for (uint32_t records = section[5]; records > 0; records--) {
         if (room(w) < MMS_RECORD + 1)
-            return room(w) < MMS_RECORD ? 8 : without_count(refusal_of_mode(w->at, left > 0));
-        uint32_t refusal = refusal_of_mode(w->at, left > 0);
+            return room(w) < MMS_RECORD ? 8 : without_count(refusal_of_mode(w->at, left));
+        uint32_t refusal = refusal_of_mode(w->at, left);
         if (refusal)
             return refusal;
         if (wanted != NOTHING_WANTED && ahead-- == 0)
