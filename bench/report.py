@@ -99,20 +99,20 @@ def spent_rows(streams):
                shown(each.plain_memory))
 
 
-def growth_of_streams(streams):
-    """Instructions for each byte more, from one stream to the next."""
+def growth(name, sizes, costs):
+    """Instructions for each byte more, from one size to the next; costs has pairs of both sides."""
+    for at in range(1, len(sizes)):
+        more = sizes[at] - sizes[at - 1]
+        proved, plain = (costs[at][side] - costs[at - 1][side] for side in (0, 1))
+        yield ('%s, from %s to %s bytes' % (name, shown(sizes[at - 1]), shown(sizes[at])), shown(proved / more, 3),
+               shown(plain / more, 3))
+
+
+def growth_rows(turns, streams):
     counted = [each for each in streams if each.proved is not None]
-    for less, more in zip(counted, counted[1:]):
-        size = more.bytes - less.bytes
-        yield ('`lineup`, %s to %s bytes: a byte more' % (shown(less.bytes), shown(more.bytes)),
-               shown((more.proved - less.proved) / size, 3), shown((more.plain - less.plain) / size, 3))
-
-
-def growth_of_tuning(turns):
-    for length, size in STORE_BYTES.items():
-        turn = turns['tune 3071 %d' % length]
-        yield ('tuning, %d live places of %s bytes: a live byte' % (PLACES, shown(length)), shown(turn.proved / size, 3),
-               shown(turn.plain / size, 3))
+    yield from growth('`lineup`', [each.bytes for each in counted], [(each.proved, each.plain) for each in counted])
+    tunings = [turns['tune 3071 %d' % length] for length in STORE_BYTES]
+    yield from growth('tuning, all live places', list(STORE_BYTES.values()), [(each.proved, each.plain) for each in tunings])
 
 
 # ------------------------------------------------------------------ the machine
@@ -128,19 +128,24 @@ def processor():
 
 
 def counter(emulated):
-    return "the toolchain's x86-64 emulator, its trace" if emulated else "valgrind's callgrind"
+    return "the trace of the toolchain's x86-64 emulator" if emulated else "valgrind's callgrind"
 
 
 TEXT = '''# What the proved code costs beside plain C
 
-Written by `bench/run` on {date}, at commit {commit}, on {machine} ({processor}). Instructions are those of x86-64 code, counted
-exactly ({counter}): a turn is what two turns take more than one, so starting and reading the input are left out; calling is in it.
-Times are of both sides in one process in turn, the best of 21 rounds; for whole programs of the processor's time, the best of 5.
-A ratio is proved to plain C.
+Written by `bench/run` on {date}, at commit {commit}, on {machine} ({processor}).
 
-The plain C (`bench/plain`) was written from document 01 alone: static tables, a CRC of eight bytes at a time, one pass, no
-allocation, the same compiler with `-O2`. Before anything is counted both sides must give the same answers, and the same stores
-after an offer. The marks are those that such C is expected to reach.
+Instructions are those of x86-64 code, counted exactly by {counter}. A turn is what two turns take more than one: starting and
+reading the input are left out, calling is in it. A repeated move or fill, by which the C library copies and fills some thousand
+bytes and more, counts once for each byte. Times are of both sides in one process in turn, the best of 21 rounds; of whole programs
+the processor's time, the best of 5 runs. A ratio is proved to plain C.
+
+The plain C (`bench/plain`) was written from document 01 and its readings, not from the proved code: static tables, a CRC of eight
+bytes at a time, one pass, no allocation, the same compiler with `-O2`. `bench/plain/test` compares it with the second program of
+`tests/second`. Before anything is counted here both sides must give the same answers, and the same stores after an offer, on
+what is measured; also on sections of all kinds, most of them refused, and on the captures of `tests/captures`.
+
+The marks are figures that such C reached elsewhere, on inputs of the same kind and size, not on these very bytes.
 
 ## The check of a section
 
@@ -154,10 +159,12 @@ The state comes as 34 bytes on both sides and is checked whole; the answer alone
 {offer}
 ## Tuning
 
-A full store: 16 live places of 1,024 bytes, all of them read and checked for each question. The mark is {byte} a byte of these.
+A full store: 16 live places of 1,024 bytes, all of them read and checked for each question. The mark is no count: it is {byte}, that
+of the check, for each of these bytes.
 
 {tune}
-The line-up is that of a plant of 16 sections, {plant} bytes, from its input to the printed text.
+The line-up is that of a plant of 16 sections, {plant} bytes, from its input to the printed text. Plain C doesn't check the places a
+second time for it: nothing but its receiver, which checked them, writes there.
 
 ## The program `lineup`
 
@@ -166,23 +173,27 @@ A stream of that plant, again and again; the whole program, from its start to it
 {stream}
 | bytes | proved, s | plain C, s | proved, KB | plain C, KB |
 |---|---:|---:|---:|---:|
-{spent}
+{spent}{emulated}
 ## Growth
 
-Instructions for each byte are the same at every size: both grow with the input and no faster.
+What each byte more costs, from one size to the next: where that stays the same the cost is linear. Tuning is that of the last
+records, on 16 live places of 256, 512 and 1,024 bytes.
 
 {growth}'''
+
+EMULATED = '''
+Times and memory are those of the emulator with the program in it. Longer streams are not counted there.
+'''
 
 
 def report(turns, streams, commit, emulated):
     spent = '\n'.join('| %s |' % ' | '.join(each) for each in spent_rows(streams)) + '\n'
-    growth = list(growth_of_streams(streams)) + list(growth_of_tuning(turns))
     return TEXT.format(
         date=datetime.date.today().isoformat(), commit=commit, machine=platform.machine(), processor=processor(),
-        counter=counter(emulated), check=table(HEAD, check_rows(turns)), offer=table(HEAD, offer_rows(turns)), byte=MARK_BYTE,
+        counter=counter(emulated), emulated=EMULATED if emulated else '', check=table(HEAD, check_rows(turns)), offer=table(HEAD, offer_rows(turns)), byte=MARK_BYTE,
         tune=table(HEAD, tune_rows(turns)), plant=shown(PLANT[1]),
         stream=table(('bytes',) + HEAD[1:], stream_rows(streams)), spent=spent,
-        growth=table(('work', 'proved, instructions', 'plain C, instructions'), growth))
+        growth=table(('work', 'proved, instructions a byte more', 'plain C, instructions a byte more'), growth_rows(turns, streams)))
 
 
 # ---------------------------------------------------------------------- the plot

@@ -4,7 +4,7 @@
 
 #include "receiver.h"
 
-/* A line of a digital channel has at most 137 bytes, four channel maps have at most 111 records each, and the front is short. */
+/* A line has at most 122 bytes, four channel maps have at most 111 records each, and the front has at most 150 bytes. */
 enum { MOST_LINEUP = 65536 };
 
 struct stream {
