@@ -22,7 +22,7 @@ uint64_t trial_tune(const uint8_t *state, size_t state_length, const uint8_t *st
                     uint32_t part);
 uint64_t trial_lineup(const uint8_t *input, size_t input_length, uint8_t *out, size_t out_length);
 
-enum { MOST_INPUT = 1 << 22, MOST_SECTIONS = 1 << 15, OFFER_PARTS = 6, ANSWER_PART = 5, TUNE_PARTS = 3, MOST_OUTPUT = 1 << 17 };
+enum { MOST_INPUT = 1 << 22, MOST_SECTIONS = 1 << 16, OFFER_PARTS = 6, ANSWER_PART = 5, TUNE_PARTS = 3, MOST_OUTPUT = 1 << 17 };
 enum { ROUNDS = 21, ROUND_NANOSECONDS = 2000000, CHANNEL_STEP = 7 };
 
 static uint8_t input[MOST_INPUT], proved_out[MOST_OUTPUT], plain_out[MOST_OUTPUT];
