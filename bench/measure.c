@@ -23,7 +23,9 @@ uint64_t trial_tune(const uint8_t *state, size_t state_length, const uint8_t *st
 uint64_t trial_lineup(const uint8_t *input, size_t input_length, uint8_t *out, size_t out_length);
 
 enum { MOST_INPUT = 1 << 22, MOST_SECTIONS = 1 << 16, OFFER_PARTS = 6, ANSWER_PART = 5, TUNE_PARTS = 3, MOST_OUTPUT = 1 << 17 };
-enum { ROUNDS = 21, ROUND_NANOSECONDS = 2000000, CHANNEL_STEP = 7 };
+/* Short rounds and many of them: the best one is undisturbed on a busy machine too. Long turns have fewer. */
+enum { LEAST_ROUNDS = 21, MOST_ROUNDS = 301, ROUND_NANOSECONDS = 200000, ENOUGH_NANOSECONDS = 1000000000 };
+enum { CHANNEL_STEP = 7 };
 
 static uint8_t input[MOST_INPUT], proved_out[MOST_OUTPUT], plain_out[MOST_OUTPUT];
 static size_t input_length;
@@ -227,9 +229,9 @@ static uint32_t turns_for_round(void (*turn)(void)) {
 }
 
 static int time_both(const struct work *work) {
-    uint64_t best_proved = ~0ull, best_plain = ~0ull;
+    uint64_t best_proved = ~0ull, best_plain = ~0ull, start = now();
     uint32_t turns = turns_for_round(work->plain);
-    for (int round = 0; round < ROUNDS; round++) {
+    for (int round = 0; round < LEAST_ROUNDS || (round < MOST_ROUNDS && now() - start < ENOUGH_NANOSECONDS); round++) {
         uint64_t proved = nanoseconds(work->proved, turns), plain = nanoseconds(work->plain, turns);
         best_proved = proved < best_proved ? proved : best_proved;
         best_plain = plain < best_plain ? plain : best_plain;

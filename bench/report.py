@@ -4,18 +4,18 @@ import datetime
 import os
 import platform
 import re
+import subprocess
 import sys
 from collections import namedtuple
 
 BENCH = os.path.dirname(os.path.abspath(__file__))
 PLACES = 16
 STORE_BYTES = {256: PLACES * 256, 512: PLACES * 512, 1024: PLACES * 1024}
-PLANT = (16, 9560)              # sections and bytes of the plant of inputs.py
-SMALL_SECTIONS = 64
 MARK_BYTE, MARK_SMALL, MARK_STREAM = 6.9, 418, 11300000
 
 # instructions and nanoseconds of one turn
 Turn = namedtuple('Turn', 'proved plain proved_time plain_time')
+Sections = namedtuple('Sections', 'count bytes')
 # instructions are None where they weren't counted
 Stream = namedtuple('Stream', 'bytes proved plain proved_time proved_memory plain_time plain_memory')
 
@@ -32,6 +32,17 @@ def read_figures(path):
             else:
                 turns[name] = Turn(*numbers)
     return turns, streams
+
+
+def read_sections(path):
+    """How many sections a file of inputs.py has, and their bytes."""
+    with open(path, 'rb') as file:
+        data = file.read()
+    at = count = 0
+    while at < len(data):
+        at += 4 + int.from_bytes(data[at:at + 4], 'little')
+        count += 1
+    return Sections(count, len(data) - 4 * count)
 
 
 # ---------------------------------------------------------------------- tables
@@ -55,14 +66,19 @@ def row(work, turn, mark='', per=1, digits=0):
             '%.2f' % (turn.proved_time / turn.plain_time), mark)
 
 
-def check_rows(turns):
+def stream_of_sections(words, turn, sections, mark_section='', mark_byte=''):
+    """Two rows: of a section and of a byte."""
+    yield row('%s, %s bytes a section: a section' % (words, shown(sections.bytes / sections.count, 1)), turn, mark_section,
+              sections.count)
+    yield row('%s: a byte' % words, turn, mark_byte, sections.bytes, 2)
+
+
+def check_rows(turns, plant, small):
     for name in ('CDS', 'MMS', 'VCM', 'DCM'):
         for length in (24, 64, 256, 1024):
             yield row('%s, %s bytes' % (name, shown(length)), turns['check %s %d' % (name.lower(), length)])
-    plant, small = turns['check plant'], turns['check small']
-    yield row('full plant (%s bytes a section): a section' % shown(PLANT[1] / PLANT[0], 1), plant, per=PLANT[0])
-    yield row('full plant: a byte', plant, '%.1f' % MARK_BYTE, PLANT[1], 2)
-    yield row('small sections (20 to 60 bytes): a section', small, shown(MARK_SMALL), SMALL_SECTIONS)
+    yield from stream_of_sections('full plant', turns['check plant'], plant, mark_byte='%.1f' % MARK_BYTE)
+    yield from stream_of_sections('small sections', turns['check small'], small, shown(MARK_SMALL))
 
 
 OFFERS = (('repeats', 'repeats'), ('is_stored', 'is stored'), ('goes_live', 'goes live'))
@@ -118,12 +134,12 @@ def growth_rows(turns, streams):
 # ------------------------------------------------------------------ the machine
 
 def processor():
-    """Its name, without the host's."""
+    """Its name alone."""
     try:
-        with open('/proc/cpuinfo') as file:
-            found = re.search(r'^model name\s*:\s*(.+)$', file.read(), re.MULTILINE)
+        listed = subprocess.run(['lscpu'], stdout=subprocess.PIPE, env={'LC_ALL': 'C', 'PATH': os.environ.get('PATH', '')})
     except OSError:
-        found = None
+        return 'processor not named'
+    found = re.search(r'^Model name:\s*(\S.*)$', listed.stdout.decode('utf-8', 'replace'), re.MULTILINE)
     return found.group(1).strip() if found else 'processor not named'
 
 
@@ -137,12 +153,12 @@ Written by `bench/run` on {date}, at commit {commit}, on {machine} ({processor})
 
 Instructions are those of x86-64 code, counted exactly by {counter}. A turn is what two turns take more than one: starting and
 reading the input are left out, calling is in it. A repeated move or fill, by which the C library copies and fills some thousand
-bytes and more, counts once for each byte. Times are of both sides in one process in turn, the best of 21 rounds; of whole programs
-the processor's time, the best of 5 runs. A ratio is proved to plain C.
+bytes and more, counts once for each byte. Times are of both sides in one process in turn, the best of 21 to 301 rounds; of whole
+programs the processor's time, the best of 15 runs. A ratio is proved to plain C.
 
-The plain C (`bench/plain`) was written from document 01 and its readings, not from the proved code: static tables, a CRC of eight
-bytes at a time, one pass, no allocation, the same compiler with `-O2`. `bench/plain/test` compares it with the second program of
-`tests/second`. Before anything is counted here both sides must give the same answers, and the same stores after an offer, on
+The plain C (`bench/plain`) was written from document 01 and its readings, with the second program (`tests/second`) at hand and
+without a look at the proved code: static tables, a CRC of eight bytes at a time, one pass, no allocation, the same compiler with
+`-O2`. `bench/plain/test` compares it with the second program. Before anything is counted here both sides must give the same answers, and the same stores after an offer, on
 what is measured; also on sections of all kinds, most of them refused, and on the captures of `tests/captures`.
 
 The marks are figures that such C reached elsewhere, on inputs of the same kind and size, not on these very bytes.
@@ -163,7 +179,7 @@ A full store: 16 live places of 1,024 bytes, all of them read and checked for ea
 of the check, for each of these bytes.
 
 {tune}
-The line-up is that of a plant of 16 sections, {plant} bytes, from its input to the printed text. Plain C doesn't check the places a
+The line-up is that of a plant of {sections} sections, {plant} bytes, from its input to the printed text. Plain C doesn't check the places a
 second time for it: nothing but its receiver, which checked them, writes there.
 
 ## The program `lineup`
@@ -186,12 +202,13 @@ Times and memory are those of the emulator with the program in it. Longer stream
 '''
 
 
-def report(turns, streams, commit, emulated):
+def report(folder, turns, streams, commit, emulated):
+    plant, small = (read_sections(os.path.join(folder, name + '.sections')) for name in ('plant', 'small'))
     spent = '\n'.join('| %s |' % ' | '.join(each) for each in spent_rows(streams)) + '\n'
     return TEXT.format(
         date=datetime.date.today().isoformat(), commit=commit, machine=platform.machine(), processor=processor(),
-        counter=counter(emulated), emulated=EMULATED if emulated else '', check=table(HEAD, check_rows(turns)), offer=table(HEAD, offer_rows(turns)), byte=MARK_BYTE,
-        tune=table(HEAD, tune_rows(turns)), plant=shown(PLANT[1]),
+        counter=counter(emulated), emulated=EMULATED if emulated else '', check=table(HEAD, check_rows(turns, plant, small)), offer=table(HEAD, offer_rows(turns)), byte=MARK_BYTE,
+        tune=table(HEAD, tune_rows(turns)), sections=plant.count, plant=shown(plant.bytes),
         stream=table(('bytes',) + HEAD[1:], stream_rows(streams)), spent=spent,
         growth=table(('work', 'proved, instructions a byte more', 'plain C, instructions a byte more'), growth_rows(turns, streams)))
 
@@ -287,7 +304,8 @@ def main():
         sys.exit('report.py: takes the file of figures, the commit, and perhaps the word emulated')
     try:
         turns, streams = read_figures(sys.argv[1])
-        write('RESULTS.md', report(turns, streams, sys.argv[2], len(sys.argv) == 4 and sys.argv[3] != ''))
+        folder = os.path.dirname(sys.argv[1])
+        write('RESULTS.md', report(folder, turns, streams, sys.argv[2], len(sys.argv) == 4 and sys.argv[3] != ''))
         write('cost.svg', cost_plot(turns))
     except (OSError, ValueError, TypeError, KeyError) as error:
         sys.exit('report.py: the figures are not those of bench/run: %s' % error)

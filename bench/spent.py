@@ -7,7 +7,7 @@ import os
 import sys
 import time
 
-RUNS = 5
+RUNS = 15
 LOOKS = 0.0005          # seconds between two looks at the command's memory
 
 

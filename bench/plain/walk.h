@@ -72,14 +72,16 @@ static inline uint32_t walk_cds(struct walk *w, const uint8_t *section, uint32_t
 }
 
 /* A mode record's first byte, system and inner coding: whether both are assigned. */
-#define INNER_CODINGS {1, 1, 0, 1, 0, 1, 0, 1, 1, 1, 0, 1, 0, 0, 0, 1}
-static const uint8_t is_assigned[16][16] = {[0] = INNER_CODINGS, [2] = INNER_CODINGS, [3] = INNER_CODINGS, [4] = INNER_CODINGS};
+#define CODINGS_OF(system)                                                                                                \
+    [16 * system] = 1, [16 * system + 1] = 1, [16 * system + 3] = 1, [16 * system + 5] = 1, [16 * system + 7] = 1,        \
+    [16 * system + 8] = 1, [16 * system + 9] = 1, [16 * system + 11] = 1, [16 * system + 15] = 1
+static const uint8_t is_assigned[256] = {CODINGS_OF(0), CODINGS_OF(2), CODINGS_OF(3), CODINGS_OF(4)};
 enum { MOST_FORMAT = 24 };
 
 static inline uint32_t refusal_of_mode(const uint8_t *record, uint32_t left) {
     if (load32(record) & bits_of_bytes(0, 0x60, 0xF0, 0))
         return 9;
-    return left == 0 || (record[1] & 0x1F) > MOST_FORMAT || !is_assigned[0][record[0]] ? 10 : 0;
+    return left == 0 || (record[1] & 0x1F) > MOST_FORMAT || !is_assigned[record[0]] ? 10 : 0;
 }
 
 static inline uint32_t walk_mms(struct walk *w, const uint8_t *section, uint32_t wanted) {
