@@ -28,7 +28,7 @@ RECORD = {CDS: 6, MMS: 7, VCM: 9, DCM: 1}               # bytes of a record, wit
 MOST_RANGES = 127
 LENGTHS = (24, 64, 128, 256, 384, 512, 640, 768, 896, 1024)      # of one section
 STORE_LENGTHS = (256, 512, 1024)
-STREAM_BYTES = (1000000, 4000000, 16000000)
+STREAM_BYTES = (250000, 1000000, 4000000, 16000000)
 QAM64, QAM256 = (2, 15, 0, 7, 5056941), (2, 15, 0, 16, 5360537)
 LAST_CHANNEL = 3071
 SMALL_SECTIONS = 64
@@ -180,6 +180,19 @@ def offer_input(dice, kind, name, length):
     return state_bytes(State(MAP, (held,) * len(ORDER))) + bytes(store_of(STORE_BYTES, 2)) + made
 
 
+# ----------------------------------------------------------------------- streams
+
+def stream(sections, most):
+    """The sections again and again, while the next one ends within so many bytes."""
+    whole = b''.join(sections)
+    data = two(MAP) + whole * ((most - 2) // len(whole))
+    for each in sections:
+        if len(data) + len(each) > most:
+            break
+        data += each
+    return data
+
+
 # ------------------------------------------------------------------- all of them
 
 def framed(sections):
@@ -206,7 +219,7 @@ def inputs():
         yield kind + '_small.offer', offer_input(dice, kind, CDS, 22)
     yield 'plant.capture', two(MAP) + b''.join(whole)
     for size in STREAM_BYTES:
-        yield 'stream_%d.capture' % size, two(MAP) + b''.join(whole) * (size // sum(map(len, whole)))
+        yield 'stream_%d.capture' % size, stream(whole, size)
 
 
 def main():

@@ -12,6 +12,7 @@ BENCH = os.path.dirname(os.path.abspath(__file__))
 PLACES = 16
 STORE_BYTES = {256: PLACES * 256, 512: PLACES * 512, 1024: PLACES * 1024}
 MARK_BYTE, MARK_SMALL, MARK_STREAM = 6.9, 418, 11300000
+MARKED_BYTES = 1000000          # the stream of the last mark
 
 # instructions and nanoseconds of one turn
 Turn = namedtuple('Turn', 'proved plain proved_time plain_time')
@@ -106,7 +107,7 @@ def stream_rows(streams):
         counted = each.proved is not None
         yield (shown(each.bytes), shown(each.proved) if counted else 'not counted', shown(each.plain) if counted else 'not counted',
                '%.2f' % (each.proved / each.plain) if counted else '', '%.2f' % (each.proved_time / each.plain_time),
-               shown(MARK_STREAM) if each is streams[0] else '')
+               shown(MARK_STREAM) if MARKED_BYTES * 0.99 < each.bytes <= MARKED_BYTES else '')
 
 
 def spent_rows(streams):
