@@ -230,13 +230,13 @@ static uint32_t turns_for_round(void (*turn)(void)) {
 
 static int time_both(const struct work *work) {
     uint64_t best_proved = ~0ull, best_plain = ~0ull, start = now();
-    uint32_t turns = turns_for_round(work->plain);
+    uint32_t proved_turns = turns_for_round(work->proved), plain_turns = turns_for_round(work->plain);
     for (int round = 0; round < LEAST_ROUNDS || (round < MOST_ROUNDS && now() - start < ENOUGH_NANOSECONDS); round++) {
-        uint64_t proved = nanoseconds(work->proved, turns), plain = nanoseconds(work->plain, turns);
+        uint64_t proved = nanoseconds(work->proved, proved_turns), plain = nanoseconds(work->plain, plain_turns);
         best_proved = proved < best_proved ? proved : best_proved;
         best_plain = plain < best_plain ? plain : best_plain;
     }
-    printf("%.1f %.1f\n", (double)best_proved / turns, (double)best_plain / turns);
+    printf("%.1f %.1f\n", (double)best_proved / proved_turns, (double)best_plain / plain_turns);
     return fflush(stdout) != 0;
 }
 
