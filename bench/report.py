@@ -105,8 +105,9 @@ def tune_rows(turns):
 def stream_rows(streams):
     for each in streams:
         counted = each.proved is not None
-        yield (shown(each.bytes), shown(each.proved) if counted else 'not counted', shown(each.plain) if counted else 'not counted',
-               '%.2f' % (each.proved / each.plain) if counted else '', '%.2f' % (each.proved_time / each.plain_time),
+        proved, plain = ((shown(each.proved), shown(each.plain)) if counted else ('not counted',) * 2)
+        ratio = '%.2f' % (each.proved / each.plain) if counted else ''
+        yield (shown(each.bytes), proved, plain, ratio, '%.2f' % (each.proved_time / each.plain_time),
                shown(MARK_STREAM) if MARKED_BYTES * 0.99 < each.bytes <= MARKED_BYTES else '')
 
 
@@ -129,7 +130,8 @@ def growth_rows(turns, streams):
     counted = [each for each in streams if each.proved is not None]
     yield from growth('`lineup`', [each.bytes for each in counted], [(each.proved, each.plain) for each in counted])
     tunings = [turns['tune 3071 %d' % length] for length in STORE_BYTES]
-    yield from growth('tuning, all live places', list(STORE_BYTES.values()), [(each.proved, each.plain) for each in tunings])
+    costs = [(each.proved, each.plain) for each in tunings]
+    yield from growth('tuning, all live places', list(STORE_BYTES.values()), costs)
 
 
 # ------------------------------------------------------------------ the machine
@@ -152,15 +154,16 @@ TEXT = '''# What the proved code costs beside plain C
 
 Written by `bench/run` on {date}, at commit {commit}, on {machine} ({processor}).
 
-Instructions are those of x86-64 code, counted exactly by {counter}. A turn is what two turns take more than one: starting and
-reading the input are left out, calling is in it. A repeated move or fill, by which the C library copies and fills some thousand
-bytes and more, counts once for each byte. Times are of both sides in one process in turn, the best of 21 to 301 rounds; of whole
-programs the processor's time, the best of 15 runs. A ratio is proved to plain C.
+Instructions are those of x86-64 code, counted exactly by {counter}. A turn is what two turns take more than
+one: starting and reading the input are left out, calling is in it. A repeated move or fill, by which the C library copies
+and fills some thousand bytes and more, counts once for each byte. Times are of both sides in one process in turn, the best
+of 21 to 301 rounds; of whole programs the processor's time, the best of 15 runs. A ratio is proved to plain C.
 
-The plain C (`bench/plain`) was written from document 01 and its readings, with the second program (`tests/second`) at hand and
-without a look at the proved code: static tables, a CRC of eight bytes at a time, one pass, no allocation, the same compiler with
-`-O2`. `bench/plain/test` compares it with the second program. Before anything is counted here both sides must give the same answers, and the same stores after an offer, on
-what is measured; also on sections of all kinds, most of them refused, and on the captures of `tests/captures`.
+The plain C (`bench/plain`) was written from document 01 and its readings, with the second program (`tests/second`) at hand
+and without a look at the proved code: static tables, a CRC of eight bytes at a time, one pass, no allocation, the same
+compiler with `-O2`. `bench/plain/test` compares it with the second program. Before anything is counted here both sides must
+give the same answers, and the same stores after an offer, on what is measured; also on sections of all kinds, most of them
+refused, and on the captures of `tests/captures`.
 
 The marks are figures that such C reached elsewhere, on inputs of the same kind and size, not on these very bytes.
 
@@ -176,12 +179,12 @@ The state comes as 34 bytes on both sides and is checked whole; the answer alone
 {offer}
 ## Tuning
 
-A full store: 16 live places of 1,024 bytes, all of them read and checked for each question. The mark is no count: it is {byte}, that
-of the check, for each of these bytes.
+A full store: 16 live places of 1,024 bytes, all of them read and checked for each question. The mark is no count: it is
+{byte}, that of the check, for each of these bytes.
 
 {tune}
-The line-up is that of a plant of {sections} sections, {plant} bytes, from its input to the printed text. Plain C doesn't check the places a
-second time for it: nothing but its receiver, which checked them, writes there.
+The line-up is that of a plant of {sections} sections, {plant} bytes, from its input to the printed text. Plain C doesn't
+check the places a second time for it: nothing but its receiver, which checked them, writes there.
 
 ## The program `lineup`
 
@@ -206,12 +209,14 @@ Times and memory are those of the emulator with the program in it. Longer stream
 def report(folder, turns, streams, commit, emulated):
     plant, small = (read_sections(os.path.join(folder, name + '.sections')) for name in ('plant', 'small'))
     spent = '\n'.join('| %s |' % ' | '.join(each) for each in spent_rows(streams)) + '\n'
+    growths = table(('work', 'proved, instructions a byte more', 'plain C, instructions a byte more'),
+                    growth_rows(turns, streams))
     return TEXT.format(
         date=datetime.date.today().isoformat(), commit=commit, machine=platform.machine(), processor=processor(),
-        counter=counter(emulated), emulated=EMULATED if emulated else '', check=table(HEAD, check_rows(turns, plant, small)), offer=table(HEAD, offer_rows(turns)), byte=MARK_BYTE,
-        tune=table(HEAD, tune_rows(turns)), sections=plant.count, plant=shown(plant.bytes),
-        stream=table(('bytes',) + HEAD[1:], stream_rows(streams)), spent=spent,
-        growth=table(('work', 'proved, instructions a byte more', 'plain C, instructions a byte more'), growth_rows(turns, streams)))
+        counter=counter(emulated), emulated=EMULATED if emulated else '', check=table(HEAD, check_rows(turns, plant, small)),
+        offer=table(HEAD, offer_rows(turns)), byte=MARK_BYTE, tune=table(HEAD, tune_rows(turns)),
+        sections=plant.count, plant=shown(plant.bytes), stream=table(('bytes',) + HEAD[1:], stream_rows(streams)),
+        spent=spent, growth=growths)
 
 
 # ---------------------------------------------------------------------- the plot
@@ -269,7 +274,8 @@ class Plot:
         for x, y in points:
             self.parts.append('<circle cx="%.1f" cy="%.1f" r="3" fill="%s"/>' % (self.x(x), self.y(y), colour))
         last_x, last_y = points[-1]
-        self.text(self.x(last_x) + 10, self.y(last_y) + 4, '%s: %s' % (name, shown(last_y)), 'start', ' fill="%s"' % colour)
+        label = '%s: %s' % (name, shown(last_y))
+        self.text(self.x(last_x) + 10, self.y(last_y) + 4, label, 'start', ' fill="%s"' % colour)
 
     def legend(self):
         for at, (name, colour) in enumerate(COLOURS.items()):
@@ -279,7 +285,8 @@ class Plot:
 
     def svg(self):
         return ('<svg xmlns="http://www.w3.org/2000/svg" viewBox="0 0 %d %d" width="%d" height="%d" '
-                'font-family="sans-serif" font-size="13" fill="#222222">\n<rect width="100%%" height="100%%" fill="#ffffff"/>\n'
+                'font-family="sans-serif" font-size="13" fill="#222222">\n'
+                '<rect width="100%%" height="100%%" fill="#ffffff"/>\n'
                 '%s\n</svg>\n' % (WIDTH, HEIGHT, WIDTH, HEIGHT, '\n'.join(self.parts)))
 
 

@@ -1,23 +1,25 @@
 """Mofrindi: runs a command on standard input several times: spent.py COMMAND [ARGUMENT..].
 
-Prints the seconds of the fastest run, as the processor counts them, and the most memory that one run used, in KB.
+Prints the seconds of the fastest run, as the processor counts them, and the most memory that a run used, in KB.
 """
 
+import fcntl
 import os
+import select
 import sys
-import time
 
 RUNS = 15
-LOOKS = 0.0005          # seconds between two looks at the command's memory
+SET_PIPE_SIZE = 1031    # of fcntl; Python has a name for it from 3.10 on
+LEAST_PIPE = 4096
 
 
-def start(words):
-    """The process; standard input is read from its start, and what is printed is not looked at."""
+def start(words, out):
+    """The process; standard input is read from its start."""
     os.lseek(0, 0, os.SEEK_SET)
     child = os.fork()
     if child == 0:
         try:
-            os.dup2(os.open(os.devnull, os.O_WRONLY), 1)
+            os.dup2(out, 1)
             os.execv(words[0], words)
         finally:
             os._exit(127)
@@ -29,33 +31,33 @@ def end(words, status):
         sys.exit('spent.py: %s failed' % words[0])
 
 
-def seconds(words):
-    _, status, used = os.wait4(start(words), 0)
+def seconds(words, out):
+    _, status, used = os.wait4(start(words, out), 0)
     end(words, status)
     return used.ru_utime + used.ru_stime
 
 
 def memory_so_far(child):
-    """The most memory that the process has used, or 0 where that can't be told: what is counted before the command is
-    loaded is this script's own, and at its end there is nothing to look at."""
-    try:
-        if os.path.samefile('/proc/%d/exe' % child, '/proc/self/exe'):
-            return 0
-        with open('/proc/%d/status' % child) as status:
-            return next((int(line.split()[1]) for line in status if line.startswith('VmHWM:')), 0)
-    except OSError:
-        return 0
+    """The most memory that the process has used: of its own, not of what was there before the command was loaded."""
+    with open('/proc/%d/status' % child) as status:
+        return next((int(line.split()[1]) for line in status if line.startswith('VmHWM:')), 0)
 
 
 def memory(words):
-    child, most = start(words), 0
-    while True:
-        ended, status = os.waitpid(child, os.WNOHANG)
-        if ended:
-            end(words, status)
-            return most
-        most = max(most, memory_so_far(child))
-        time.sleep(LOOKS)
+    """Looked at when the command prints more than its pipe takes and so waits, with its input read."""
+    reader, writer = os.pipe()
+    fcntl.fcntl(writer, SET_PIPE_SIZE, LEAST_PIPE)
+    child = start(words, writer)
+    os.close(writer)
+    select.select([reader], [], [])
+    used = memory_so_far(child)
+    while os.read(reader, 65536):
+        pass
+    os.close(reader)
+    end(words, os.waitpid(child, 0)[1])
+    if used == 0:
+        sys.exit('spent.py: %s prints too little for a look at its memory' % words[0])
+    return used
 
 
 def main():
@@ -63,7 +65,8 @@ def main():
         sys.exit('spent.py: takes a command')
     words = sys.argv[1:]
     try:
-        print('%.4f\t%d' % (min(seconds(words) for _ in range(RUNS)), memory(words)))
+        nowhere = os.open(os.devnull, os.O_WRONLY)
+        print('%.4f\t%d' % (min(seconds(words, nowhere) for _ in range(RUNS)), memory(words)))
     except OSError as error:
         sys.exit('spent.py: %s' % error.strerror)
 

@@ -1,6 +1,6 @@
-/* Each table is walked once into a table by index or channel, the first match first; then the channels that are defined and have
-   a record are looked at in ascending order. The sections in the store were checked when they were held, and nothing but the
-   receiver writes there: they are not checked a second time. */
+/* Each table is walked once into a table by index or channel, the first match first; then the channels that are defined and
+   have a record are looked at in ascending order. The sections in the store were checked when they were held, and nothing but
+   the receiver writes there: they are not checked a second time. */
 #include "lineup.h"
 
 #include "text.h"

@@ -55,7 +55,8 @@ static inline int read_place(const struct receiver *r, const uint8_t *place, uin
 }
 
 /* All live places of a table, the lowest first; `found` is the first match of all. */
-static inline int read_places(const struct receiver *r, const uint8_t *store, uint32_t table, uint32_t wanted, struct walk *found) {
+static inline int read_places(const struct receiver *r, const uint8_t *store, uint32_t table, uint32_t wanted,
+                              struct walk *found) {
     const struct holding *h = &r->tables[table];
     const uint8_t *place = store + place_at(table, h->half, 0);
     found->record = NULL;

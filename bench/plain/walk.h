@@ -1,5 +1,5 @@
-/* The walks over the records of the four tables, front to back, each record taken whole: 8 before 9 before 10. A walk also finds
-   the record that is wanted, in the same pass; where nothing is wanted (a constant) the compiler leaves the search out.
+/* The walks over the records of the four tables, front to back, each record taken whole: 8 before 9 before 10. A walk also
+   finds the record that is wanted, in the same pass; where nothing is wanted (a constant) the compiler leaves the search out.
 
    `end` is where the CRC begins. Its four bytes can be read like any others, so that a length byte behind the last whole
    descriptor is looked at before the room for it: whatever it says, the descriptor doesn't fit. */
