@@ -1,0 +1,27 @@
+/* Reading one section, refusals 3 to 11. */
+#ifndef PLAIN_SECTION_H
+#define PLAIN_SECTION_H
+
+#include <stddef.h>
+#include <stdint.h>
+
+enum table { CDS, MMS, VCM, DCM, TABLES };
+
+enum { HEADER = 7, VCM_HEAD = 7, DCM_HEAD = 3, CRC_BYTES = 4, MOST_LENGTH = 1024 };
+enum { CDS_RECORD = 5, MMS_RECORD = 6, VCM_RECORD = 9 };
+enum { MOST_CHANNEL = 4095, MOST_INDEX = 255 };
+
+/* What the receiver must know of a section that reads right; map is of a VCM or DCM only. */
+struct section_head {
+    uint32_t table, map, version, number, last;
+};
+
+/* 0, or the number of a refusal; head is set where the answer is 0. */
+uint32_t plain_read_section(const uint8_t *section, size_t length, struct section_head *head);
+uint32_t plain_check_section(const uint8_t *section, size_t length);
+
+static inline size_t stated_length(const uint8_t *section) {
+    return 3 + ((size_t)(section[1] & 0x0F) << 8 | section[2]);
+}
+
+#endif
