@@ -1,9 +1,14 @@
 // The carrier table, CDS: its record. b is a section without its CRC.
 ghost use mathlib.Core.Path.{_≡_};
+ghost use mathlib.Core.Bool.{true};
+ghost use Prim.Native.Nat.{_+_, _≤_, _<_};
+ghost use lib.ListN.{length};
 ghost use Rattle.rules.specs.Bytes.{from};
 ghost use Rattle.rules.specs.Layout.{entry};
 ghost use Rattle.rules.specs.Tables.{carriersZeros, carriersOf, carriersFair, cds};
-ghost use Rattle.fields.specs.Place.{Stands};
+ghost use Rattle.fields.specs.Place.{Stands, Skims};
+ghost use Rattle.fields.specs.declared.Skip.the-variants as skip;
+use fields::Reached;
 use fields::Skip;
 use rules::Carriers;
 use rules::Measure;
@@ -41,13 +46,14 @@ pub fn carriers_of(r: &[u8]) -> Carriers
 }
 
 // It has carriers, and none at an index above 255: else 10.
-fn carriers_fair(index: u16, c: Carriers) -> bool
+fn carriers_fair(index: u32, c: Carriers) -> bool
+    requires { ⌜ index < 65536 ⌝ }
     ensures { λ x. ⌜ x ≡ carriersFair index c ⌝ }
 {
     if c.count < 1 {
         return false;
     }
-    index as u32 + c.count as u32 <= 256
+    index + c.count as u32 <= 256
 }
 
 // The place behind the record at a place, which takes indices from the given one on, and behind its descriptors; or 8, 9, 10.
@@ -59,10 +65,51 @@ pub fn carriers_step(b: &[u8], at: usize, index: u16) -> Skip
     }
     let r = &b[at..at + SIZE];
     if carriers_zeros(r) {
-        if carriers_fair(index, carriers_of(r)) {
+        if carriers_fair(index as u32, carriers_of(r)) {
             return fields::past_counted(b, at + SIZE, true);
         }
         return Skip::Refused(10);
     }
     Skip::Refused(9)
+}
+
+// Whether the record at a place is right and has no descriptors.
+fn is_plain(b: &[u8], at: usize, index: u32) -> bool
+    requires { ⌜ index < 65536 ⌝ }
+    ensures { λ x. ⌜ (x ≡ true → Stands (now (b .entry)) (skip.At (at + 5 + 1)) (entry cds index (from (now (b .entry)) at))) ⌝ }
+{
+    if fields::short(b, at, SIZE + 1) {
+        return false;
+    }
+    if b[at + SIZE] != 0 {
+        return false;
+    }
+    let r = &b[at..at + SIZE];
+    if carriers_zeros(r) {
+        return carriers_fair(index, carriers_of(r));
+    }
+    false
+}
+
+// Over the records that are right and have no descriptors, as far as they go: the short way for what a plant mostly sends.
+pub fn skim(b: &[u8], start: usize, first: u16, count: u8) -> Reached
+    requires { ⌜ start ≤ length (now b) ⌝ }
+    ensures { λ r. ⌜ Skims cds count first (now (b .entry)) start r ⌝ }
+{
+    let mut at = start;
+    let mut index = first as u32;
+    let mut left = count;
+    while 0 < left {
+        if !is_plain(b, at, index) {
+            break;
+        }
+        index = index + b[at] as u32;
+        at = at + SIZE + 1;
+        left -= 1;
+    }
+    Reached {
+        at,
+        index: index as u16,
+        left,
+    }
 }

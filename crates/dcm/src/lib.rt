@@ -1,9 +1,14 @@
 // The defined channels map, DCM: its head and its range byte. b is a section without its CRC.
 ghost use mathlib.Core.Path.{_≡_};
+ghost use mathlib.Core.Bool.{true};
+ghost use Prim.Native.Nat.{_+_, _≤_, _<_};
+ghost use lib.ListN.{length};
 ghost use Rattle.rules.specs.Bytes.{from};
 ghost use Rattle.rules.specs.Layout.{entry};
 ghost use Rattle.rules.specs.Tables.{dcmHeadZeros, dcmHeadOf, rangeOf, rangeFair, dcm};
-ghost use Rattle.fields.specs.Place.{Stands};
+ghost use Rattle.fields.specs.Place.{Stands, Skims};
+ghost use Rattle.fields.specs.declared.Skip.the-variants as skip;
+use fields::Reached;
 use fields::Skip;
 use rules::DcmHead;
 use rules::Range;
@@ -50,13 +55,14 @@ pub fn range_of(r: &[u8]) -> Range
 }
 
 // It has channels, and none above 4095: else 10.
-fn range_fair(first: u16, r: Range) -> bool
+fn range_fair(first: u32, r: Range) -> bool
+    requires { ⌜ first < 65536 ⌝ }
     ensures { λ x. ⌜ x ≡ rangeFair first r ⌝ }
 {
     if r.count < 1 {
         return false;
     }
-    first as u32 + r.count as u32 <= 4096
+    first + r.count as u32 <= 4096
 }
 
 // The place behind the range byte at a place, whose first channel is given; or 8, 10.
@@ -66,8 +72,42 @@ pub fn range_step(b: &[u8], at: usize, first: u16) -> Skip
     if fields::short(b, at, SIZE) {
         return Skip::Refused(8);
     }
-    if range_fair(first, range_of(&b[at..at + SIZE])) {
+    if range_fair(first as u32, range_of(&b[at..at + SIZE])) {
         return Skip::At(at + SIZE);
     }
     Skip::Refused(10)
+}
+
+// Whether the range byte at a place is right.
+fn is_plain(b: &[u8], at: usize, first: u32) -> bool
+    requires { ⌜ first < 65536 ⌝ }
+    ensures { λ x. ⌜ (x ≡ true → Stands (now (b .entry)) (skip.At (at + 1)) (entry dcm first (from (now (b .entry)) at))) ⌝ }
+{
+    if fields::short(b, at, SIZE) {
+        return false;
+    }
+    range_fair(first, range_of(&b[at..at + SIZE]))
+}
+
+// Over the records that are right, as far as they go: the short way for what a plant mostly sends.
+pub fn skim(b: &[u8], start: usize, first: u16, count: u8) -> Reached
+    requires { ⌜ start ≤ length (now b) ⌝ }
+    ensures { λ r. ⌜ Skims dcm count first (now (b .entry)) start r ⌝ }
+{
+    let mut at = start;
+    let mut index = first as u32;
+    let mut left = count;
+    while 0 < left {
+        if !is_plain(b, at, index) {
+            break;
+        }
+        index = index + (b[at] % 128) as u32;
+        at = at + SIZE;
+        left -= 1;
+    }
+    Reached {
+        at,
+        index: index as u16,
+        left,
+    }
 }

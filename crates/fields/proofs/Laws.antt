@@ -6,7 +6,7 @@ use mathlib.Core.Path.{_≡_, refl, sym, ap, subst, _∙_}
 use mathlib.Core.Bool.{Bool, true, false}
 use mathlib.Core.List.{List, [], _∷_}
 use lib.ListN.{length, getD, take, drop, length-drop, drop-of-length-le, List·getD-eq-default}
-use lib.Seq.{getD-drop, drop-drop, drop-length, take-all, take-nil}
+use lib.Seq.{getD-take, getD-drop, drop-drop, drop-length, take-all, take-nil}
 use lib.Dec.{ltb}
 use borrow.Author.Tests.{le-leb, lt-leb, lt-ltb, le-ltb, ltb-true, ltb-false}
 use Rattle.rules.specs.Bytes.{Got, refused, got, unless, andThen, giving, byte, from}
@@ -14,7 +14,8 @@ use Rattle.rules.specs.Descriptors.{descriptor, passed, counted}
 use Rattle.rules.specs.Layout.{Layout, Numbered, numbered, bare, entry, after, records, head}
 use Rattle.rules.proofs.Taken.{taken, bare-so}
 use Rattle.rules.proofs.Places.{from-from, from-length, same-place, descAt, behind}
-use Rattle.fields.specs.Place.{Left, left, no, leftOf, leftAt, inside, Stands, cutShort}
+use Rattle.fields.specs.Place.{Left, left, no, leftOf, leftAt, inside, Stands, cutShort, Skims}
+use Rattle.fields.specs.declared.Reached.{Reached}
 use Rattle.fields.specs.declared.Skip.{Skip}
 use Rattle.fields.specs.declared.Skip.the-variants.{At, Refused}
 
@@ -43,6 +44,10 @@ short-past len at n h = go (ltb (len - n) at) refl
     go : (x : Bool) → ltb (len - n) at ≡ x → x ≡ ltb len (at + n)
     go true e = let lt = ltb-true (len - n) at e in simp (lt-ltb len (at + n) (omega arith))
     go false e = let le = ltb-false (len - n) at e in simp (le-ltb len (at + n) (omega arith))
+
+pub first-byte : (b : List ℕ) (at n : ℕ) → 0 < n → byte 0 (take n (from b at)) ≡ getD b at 0
+unfolding byte from
+first-byte b at n h = getD-take n (drop at b) 0 0 h ∙ getD-drop at b 0 0 ∙ rw add-zero
 
 -- what the answer of `short` says
 module _ (b : List ℕ) (at n : ℕ) {x : Bool} (e : x ≡ cutShort b at n) where
@@ -123,6 +128,10 @@ module _ (b : List ℕ) (at : ℕ) (d : Bool) where
   pub counted-some : d ≡ true → at < length b → counted d (from b at) ≡ passed (getD b at 0) (from b (at + 1))
   unfolding counted unless from byte
   counted-some e h = rw e (simp (length-drop, getD-drop, drop-drop, add-zero, le-leb 1 (length b - at) (omega arith)))
+
+  pub counted-zero : d ≡ true → at < length b → getD b at 0 ≡ 0 → counted d (from b at) ≡ got tt (from b (at + 1))
+  unfolding passed
+  counted-zero e h z = counted-some e h ∙ rw z
 
   pub counted-past : d ≡ false → length b < at → counted d (from b at) ≡ got tt (from b (length b))
   unfolding counted from
@@ -210,3 +219,14 @@ stands-once b (At i) (At j) g s t = let e : from b i ≡ from b j = cc in ap At 
 stands-once b (At i) (Refused n) g s t = let z : _≡_ {A = ℕ} 0 1 = cc in absurd (omega arith)
 stands-once b (Refused m) (At j) g s t = let z : _≡_ {A = ℕ} 0 1 = cc in absurd (omega arith)
 stands-once b (Refused m) (Refused n) g s t = cc
+
+-- ---- the short way over records
+
+module _ {R : Type 0} (l : Layout R) (b : List ℕ) where
+  -- where no record is left it has come to their end; else the walk over the rest leaves what the whole walk leaves
+  pub skimmed-all : (count index at : ℕ) (r : Reached) → Skims l count index b at r → r .left ≡ 0 → Stands b (At (r .at)) (records l count index (from b at))
+  unfolding records leftOf
+  skimmed-all count index at r s e = record { means = sym (s .same ∙ rw e); within = s .within }
+
+  pub skimmed-rest : (count index at : ℕ) (r : Reached) → Skims l count index b at r → (k : Skip) → Stands b k (records l (r .left) (r .index) (from b (r .at))) → Stands b k (records l count index (from b at))
+  skimmed-rest count index at r s k t = record { means = t .means ∙ sym (s .same); within = t .within }

@@ -1,9 +1,14 @@
 // The modulation table, MMS: its record. b is a section without its CRC.
 ghost use mathlib.Core.Path.{_≡_};
+ghost use mathlib.Core.Bool.{true, _&&_};
+ghost use Prim.Native.Nat.{_+_, _≤_};
+ghost use lib.ListN.{length};
 ghost use Rattle.rules.specs.Bytes.{from};
 ghost use Rattle.rules.specs.Layout.{entry};
-ghost use Rattle.rules.specs.Tables.{modeZeros, modeOf, among, systems, innerCodings, modeFair, mms};
-ghost use Rattle.fields.specs.Place.{Stands};
+ghost use Rattle.rules.specs.Tables.{modeZeros, modeOf, among, systems, innerCodings, assigned, modeFair, mms};
+ghost use Rattle.fields.specs.Place.{Stands, Skims};
+ghost use Rattle.fields.specs.declared.Skip.the-variants as skip;
+use fields::Reached;
 use fields::Skip;
 use rules::Mode;
 
@@ -41,57 +46,24 @@ pub fn mode_of(r: &[u8]) -> Mode
     }
 }
 
-// Table 5.7 of 003.
+// Table 5.7 of 003: 0, 2, 3 and 4, as bits.
 fn system_assigned(x: u8) -> bool
     ensures { λ r. ⌜ r ≡ among x systems ⌝ }
 {
-    if x == 0 {
-        return true;
+    if 15 < x {
+        return false;
     }
-    if x == 2 {
-        return true;
-    }
-    if x == 3 {
-        return true;
-    }
-    if x == 4 {
-        return true;
-    }
-    false
+    (0b1_1101u32 >> x) % 2 == 1
 }
 
-// Table 5.8 of 003.
+// Table 5.8 of 003: 0, 1, 3, 5, 7, 8, 9, 11 and 15, as bits.
 fn inner_assigned(x: u8) -> bool
     ensures { λ r. ⌜ r ≡ among x innerCodings ⌝ }
 {
-    if x == 0 {
-        return true;
+    if 15 < x {
+        return false;
     }
-    if x == 1 {
-        return true;
-    }
-    if x == 3 {
-        return true;
-    }
-    if x == 5 {
-        return true;
-    }
-    if x == 7 {
-        return true;
-    }
-    if x == 8 {
-        return true;
-    }
-    if x == 9 {
-        return true;
-    }
-    if x == 11 {
-        return true;
-    }
-    if x == 15 {
-        return true;
-    }
-    false
+    (0b1000_1011_1010_1011u32 >> x) % 2 == 1
 }
 
 // System, inner coding and format (Table 5.9) are assigned, and the index is at most 255: else 10.
@@ -125,4 +97,63 @@ pub fn mode_step(b: &[u8], at: usize, index: u16) -> Skip
         return Skip::Refused(10);
     }
     Skip::Refused(9)
+}
+
+// Whether a record's zero bits are 0 and its values are assigned, by the bytes as they stand.
+fn is_assigned(r: &[u8]) -> bool
+    ensures { λ x. ⌜ (x ≡ true → (modeZeros (now (r .entry)) && assigned (modeOf (now (r .entry)))) ≡ true) ⌝ }
+{
+    let codings = fields::byte(r, 0);
+    let format = fields::byte(r, 1);
+    let symbols = fields::byte(r, 2);
+    // a zero bit and a format above 24 at once
+    if 24 < format % 128 {
+        return false;
+    }
+    if 15 < symbols {
+        return false;
+    }
+    if system_assigned(codings / 16) {
+        return inner_assigned(codings % 16);
+    }
+    false
+}
+
+// Whether the record at a place is right and has no descriptors.
+fn is_plain(b: &[u8], at: usize, index: u32) -> bool
+    ensures { λ x. ⌜ (x ≡ true → Stands (now (b .entry)) (skip.At (at + 6 + 1)) (entry mms index (from (now (b .entry)) at))) ⌝ }
+{
+    if fields::short(b, at, SIZE + 1) {
+        return false;
+    }
+    if b[at + SIZE] != 0 {
+        return false;
+    }
+    if 255 < index {
+        return false;
+    }
+    is_assigned(&b[at..at + SIZE])
+}
+
+// Over the records that are right and have no descriptors, as far as they go: the short way for what a plant mostly sends.
+pub fn skim(b: &[u8], start: usize, first: u16, count: u8) -> Reached
+    requires { ⌜ start ≤ length (now b) ⌝ }
+    ensures { λ r. ⌜ Skims mms count first (now (b .entry)) start r ⌝ }
+{
+    let mut at = start;
+    let mut index = first as u32;
+    let mut left = count;
+    while 0 < left {
+        if !is_plain(b, at, index) {
+            break;
+        }
+        index = index + 1;
+        at = at + SIZE + 1;
+        left -= 1;
+    }
+    Reached {
+        at,
+        index: index as u16,
+        left,
+    }
 }

@@ -1,10 +1,10 @@
 -- Laws of the closing list at a place: one turn of each of the two loops over it.
-use Prim.Native.Nat.{ℕ, _+_, _≤_, _<_}
+use Prim.Native.Nat.{ℕ, _+_, _-_, _≤_, _<_}
 use native.Mathlib.Omega.{arith}
 use mathlib.Core.Path.{_≡_, refl, sym, ap, _∙_}
 use mathlib.Core.Bool.{true, false, cond}
-use mathlib.Core.List.{List, _∷_, _++_, append-nil}
-use lib.ListN.{length, length-take}
+use mathlib.Core.List.{List, [], _∷_, _++_, append-nil}
+use lib.ListN.{length, getD, take, length-take}
 use lib.Dec.{eqb}
 use borrow.Author.Tests.{eq-eqb, ne-eqb}
 use Rattle.rules.specs.Bytes.{Got, refused, got, andThen, giving, byte, from}
@@ -14,13 +14,13 @@ use Rattle.rules.specs.declared.Revision.{Revision}
 use Rattle.rules.specs.declared.Asked.the-variants as asked
 use Rattle.rules.proofs.Closing.{closing-end, closing-got, closing-no}
 use Rattle.fields.specs.Place.{Stands}
-use Rattle.section.specs.Closes.{closedOf, seenOf, seenWith, listed, firstIn}
+use Rattle.section.specs.Closes.{closedOf, seenOf, seenWith, listed, firstIn, Lone}
 use Rattle.fields.specs.declared.Skip.{Skip}
 use Rattle.fields.specs.declared.Skip.the-variants.{At}
 use Rattle.section.specs.declared.closing.Seen.{Seen}
 use Rattle.section.specs.declared.closing.Seen.the-variants.{Nothing, Once, Again}
 use Rattle.rules.proofs.Places.{from-length, same-place, descAt, behind, descriptor-at}
-use Rattle.fields.proofs.Laws.{at-in, at-got}
+use Rattle.fields.proofs.Laws.{at-in, at-got, desc-whole}
 
 -- a whole descriptor stands between two places
 pub record Here (b : List ℕ) (at i : ℕ) : Type 0 where
@@ -80,6 +80,18 @@ module _ (b : List ℕ) (at : ℕ) (seen : Seen) where
         go Nothing ds = refl
         go (Once start size) ds = refl
         go Again ds = refl
+
+-- a single revision descriptor up to the end: its body decides
+pub close-lone : (b : List ℕ) (at : ℕ) → Lone b at → closedOf (from b at) ≡ revision (take (length b - (at + 2)) (from b (at + 2)) ∷ [])
+unfolding seenWith seenOf byte
+close-lone b at one =
+    let size : length b - (at + 2) ≡ getD b (at + 1) 0 = omega (arith, one .fills) in
+    let there : Here b at (behind b at) =
+    record { is = desc-whole b at (omega (arith, one .fills)) (omega (arith, one .fills)); next = refl; within = omega (arith, one .fills) } in
+    close-begin b (from b at)
+    ∙ close-seen b at Nothing (behind b at) there (one .tag)
+    ∙ close-end b (behind b at) (Once (at + 2) (getD b (at + 1) 0)) (omega (arith, one .fills))
+    ∙ rw size
 
 -- ---- the first descriptor of a tag, in a list that is whole
 

@@ -1,8 +1,9 @@
 -- What the code's answers about a closing list mean.
-use Prim.Native.Nat.{ℕ}
+use Prim.Native.Nat.{ℕ, _+_}
+use mathlib.Core.Path.{_≡_}
 use mathlib.Core.Bool.{Bool, true, false}
 use mathlib.Core.List.{List, [], _∷_}
-use lib.ListN.{take}
+use lib.ListN.{length, getD, take}
 use Rattle.rules.specs.Bytes.{Got, refused, got, andThen, from}
 use Rattle.rules.specs.Descriptors.{Descriptor, closing, bodies}
 use Rattle.rules.specs.Section.{revisionTag, revision, firstOf}
@@ -41,3 +42,8 @@ listed (got a rest) = true
 unfoldable pub firstIn : (tag at : ℕ) → Got (List Descriptor) → Asked
 firstIn tag at (refused n) = asked.Refused n
 firstIn tag at (got ds rest) = firstOf tag at ds
+
+-- one revision descriptor, and nothing behind it
+pub record Lone (b : List ℕ) (at : ℕ) : Type 0 where
+  pub tag : getD b at 0 ≡ revisionTag
+  pub fills : length b ≡ at + 2 + getD b (at + 1) 0

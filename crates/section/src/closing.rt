@@ -5,7 +5,7 @@ ghost use mathlib.Core.List.{[], _∷_};
 ghost use Rattle.rules.specs.Bytes.{from};
 ghost use Rattle.rules.specs.Descriptors.{closing};
 ghost use Rattle.rules.specs.Section.{revision};
-ghost use Rattle.section.specs.Closes.{closedAs, closedOf, seenOf, seenWith, listed, firstIn};
+ghost use Rattle.section.specs.Closes.{closedAs, closedOf, seenOf, seenWith, listed, firstIn, Lone};
 use fields::Skip;
 use rules::Asked;
 use rules::Revision;
@@ -65,8 +65,8 @@ fn judged(b: &[u8], seen: Seen) -> Closed
     }
 }
 
-// The closing list from a place on, up to the end: 8 where it doesn't fill the room, then its revision, 11.
-pub fn close(b: &[u8], start: usize) -> Closed
+// Any closing list from a place on.
+fn close_list(b: &[u8], start: usize) -> Closed
     ensures { λ r. ⌜ r ≡ closedAs (closedOf (from (now (b .entry)) start)) ⌝ }
 {
     let mut at = start;
@@ -86,6 +86,29 @@ pub fn close(b: &[u8], start: usize) -> Closed
         }
     }
     judged(b, seen)
+}
+
+// Whether a single revision descriptor fills the room from a place on: most sections end so.
+fn is_lone_revision(b: &[u8], start: usize) -> bool
+    ensures { λ x. ⌜ (x ≡ true → Lone (now (b .entry)) start) ⌝ }
+{
+    if fields::short(b, start, 2) {
+        return false;
+    }
+    if b[start] != 0x93 {
+        return false;
+    }
+    b.len() - (start + 2) == b[start + 1] as usize
+}
+
+// The closing list from a place on, up to the end: 8 where it doesn't fill the room, then its revision, 11.
+pub fn close(b: &[u8], start: usize) -> Closed
+    ensures { λ r. ⌜ r ≡ closedAs (closedOf (from (now (b .entry)) start)) ⌝ }
+{
+    if is_lone_revision(b, start) {
+        return revised(&b[start + 2..]);
+    }
+    close_list(b, start)
 }
 
 // The first descriptor of a tag in a closing list that is whole.

@@ -86,34 +86,58 @@ fn walk(k: Kind, b: &[u8], start: usize, first: u16, count: u8) -> Skip
     Skip::At(at)
 }
 
-// The walk over each kind has a function to itself, so that the compiler makes a loop of each that knows its kind.
+// Each kind has its short way over the records, which is a loop of its own; the walk over any kind goes on from where that stops.
 
 fn past_carriers(b: &[u8], start: usize, first: u16, count: u8) -> Skip
     requires { ⌜ start ≤ length (now b) ⌝ }
     ensures { λ r. ⌜ Stands (now (b .entry)) r (records (layoutOf kind.Carriers) count first (from (now (b .entry)) start)) ⌝ }
 {
-    walk(Kind::Carriers, b, start, first, count)
+    let reached = cds::skim(b, start, first, count);
+    let at = reached.at;
+    if reached.left == 0 {
+        return Skip::At(at);
+    }
+    walk(Kind::Carriers, b, at, reached.index, reached.left)
 }
 
 fn past_modes(b: &[u8], start: usize, first: u16, count: u8) -> Skip
     requires { ⌜ start ≤ length (now b) ⌝ }
     ensures { λ r. ⌜ Stands (now (b .entry)) r (records (layoutOf kind.Modes) count first (from (now (b .entry)) start)) ⌝ }
 {
-    walk(Kind::Modes, b, start, first, count)
+    let reached = mms::skim(b, start, first, count);
+    let at = reached.at;
+    if reached.left == 0 {
+        return Skip::At(at);
+    }
+    walk(Kind::Modes, b, at, reached.index, reached.left)
 }
 
 fn past_channels(b: &[u8], start: usize, first: u16, count: u8, included: u8) -> Skip
     requires { ⌜ start ≤ length (now b) ⌝ }
     ensures { λ r. ⌜ Stands (now (b .entry)) r (records (layoutOf (kind.Channels included)) count first (from (now (b .entry)) start)) ⌝ }
 {
-    walk(Kind::Channels(included), b, start, first, count)
+    // a channel record takes no index, and 0 stands for one
+    if first != 0 {
+        return walk(Kind::Channels(included), b, start, first, count);
+    }
+    let reached = vcm::skim(b, start, count, included);
+    let at = reached.at;
+    if reached.left == 0 {
+        return Skip::At(at);
+    }
+    walk(Kind::Channels(included), b, at, reached.index, reached.left)
 }
 
 fn past_ranges(b: &[u8], start: usize, first: u16, count: u8) -> Skip
     requires { ⌜ start ≤ length (now b) ⌝ }
     ensures { λ r. ⌜ Stands (now (b .entry)) r (records (layoutOf kind.Ranges) count first (from (now (b .entry)) start)) ⌝ }
 {
-    walk(Kind::Ranges, b, start, first, count)
+    let reached = dcm::skim(b, start, first, count);
+    let at = reached.at;
+    if reached.left == 0 {
+        return Skip::At(at);
+    }
+    walk(Kind::Ranges, b, at, reached.index, reached.left)
 }
 
 // The place behind so many records, the first of them at a place and an index; or 8, 9, 10.

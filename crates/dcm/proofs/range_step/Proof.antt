@@ -18,7 +18,7 @@ add-range-of c = omega (arith, long-enough _ _ _ (c .before .short .ensures) (c 
 part-range-of-end : tie.Need-part-range-of-end
 part-range-of-end c = omega (arith, long-enough _ _ _ (c .before .short .ensures) (c .if1 .left))
 
-add-behind : tie.Need-add-t12
+add-behind : tie.Need-add-t13
 add-behind c =
     let f = c .before .before .before .before in
     omega (arith, long-enough _ _ _ (f .before .short .ensures) (f .if1 .left))

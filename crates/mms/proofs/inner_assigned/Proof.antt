@@ -1,60 +1,20 @@
--- One test for each value of the list.
-use borrow.Author.Tests.{eq-eqb, ne-eqb}
+-- The value's bit tells; there is no value above 15.
+use native.Mathlib.Omega.{arith}
+use mathlib.Core.Path.{refl, sym}
+use borrow.Author.Needs.{needs}
 use Rattle.rules.specs.Tables.{among, innerCodings}
+use Rattle.rules.specs.Tuning.{every}
+use Rattle.mms.proofs.Laws.{bit-told, none-higher}
 use Rattle.mms.proofs.inner_assigned.Statement.{statement}
 use Rattle.mms.proofs.inner_assigned.Tie as tie
 
 returns : tie.Need-returns
-unfolding among innerCodings
-returns c = simp (eq-eqb _ _ (c .if1 .taken))
+unfolding innerCodings
+returns c = sym (none-higher (c .before .args .x) innerCodings refl (c .if1 .taken))
 
 returns-2 : tie.Need-returns-2
-unfolding among innerCodings
-returns-2 c = simp (eq-eqb _ _ (c .if2 .taken), ne-eqb _ _ (c .before .if1 .left))
-
-returns-3 : tie.Need-returns-3
-unfolding among innerCodings
-returns-3 c = simp (eq-eqb _ _ (c .if3 .taken), ne-eqb _ _ (c .before .if2 .left), ne-eqb _ _ (c .before .before .if1 .left))
-
-returns-4 : tie.Need-returns-4
-unfolding among innerCodings
-returns-4 c = simp (eq-eqb _ _ (c .if4 .taken), ne-eqb _ _ (c .before .if3 .left), ne-eqb _ _ (c .before .before .if2 .left), ne-eqb _ _ (c .before .before .before .if1 .left))
-
-returns-5 : tie.Need-returns-5
-unfolding among innerCodings
-returns-5 c = simp (eq-eqb _ _ (c .if5 .taken), ne-eqb _ _ (c .before .if4 .left), ne-eqb _ _ (c .before .before .if3 .left), ne-eqb _ _ (c .before .before .before .if2 .left), ne-eqb _ _ (c .before .before .before .before .if1 .left))
-
-returns-6 : tie.Need-returns-6
-unfolding among innerCodings
-returns-6 c = simp (eq-eqb _ _ (c .if6 .taken), ne-eqb _ _ (c .before .if5 .left), ne-eqb _ _ (c .before .before .if4 .left), ne-eqb _ _ (c .before .before .before .if3 .left), ne-eqb _ _ (c .before .before .before .before .if2 .left), ne-eqb _ _ (c .before .before .before .before .before .if1 .left))
-
-returns-7 : tie.Need-returns-7
-unfolding among innerCodings
-returns-7 c = simp (eq-eqb _ _ (c .if7 .taken), ne-eqb _ _ (c .before .if6 .left), ne-eqb _ _ (c .before .before .if5 .left), ne-eqb _ _ (c .before .before .before .if4 .left), ne-eqb _ _ (c .before .before .before .before .if3 .left), ne-eqb _ _ (c .before .before .before .before .before .if2 .left), ne-eqb _ _ (c .before .before .before .before .before .before .if1 .left))
-
-returns-8 : tie.Need-returns-8
-unfolding among innerCodings
-returns-8 c = simp (eq-eqb _ _ (c .if8 .taken), ne-eqb _ _ (c .before .if7 .left), ne-eqb _ _ (c .before .before .if6 .left), ne-eqb _ _ (c .before .before .before .if5 .left), ne-eqb _ _ (c .before .before .before .before .if4 .left), ne-eqb _ _ (c .before .before .before .before .before .if3 .left), ne-eqb _ _ (c .before .before .before .before .before .before .if2 .left), ne-eqb _ _ (c .before .before .before .before .before .before .before .if1 .left))
-
-returns-9 : tie.Need-returns-9
-unfolding among innerCodings
-returns-9 c = simp (eq-eqb _ _ (c .if9 .taken), ne-eqb _ _ (c .before .if8 .left), ne-eqb _ _ (c .before .before .if7 .left), ne-eqb _ _ (c .before .before .before .if6 .left), ne-eqb _ _ (c .before .before .before .before .if5 .left), ne-eqb _ _ (c .before .before .before .before .before .if4 .left), ne-eqb _ _ (c .before .before .before .before .before .before .if3 .left), ne-eqb _ _ (c .before .before .before .before .before .before .before .if2 .left), ne-eqb _ _ (c .before .before .before .before .before .before .before .before .if1 .left))
-
-returns-10 : tie.Need-returns-10
-unfolding among innerCodings
-returns-10 c = simp (ne-eqb _ _ (c .if9 .left), ne-eqb _ _ (c .before .if8 .left), ne-eqb _ _ (c .before .before .if7 .left), ne-eqb _ _ (c .before .before .before .if6 .left), ne-eqb _ _ (c .before .before .before .before .if5 .left), ne-eqb _ _ (c .before .before .before .before .before .if4 .left), ne-eqb _ _ (c .before .before .before .before .before .before .if3 .left), ne-eqb _ _ (c .before .before .before .before .before .before .before .if2 .left), ne-eqb _ _ (c .before .before .before .before .before .before .before .before .if1 .left))
+unfolding among innerCodings every
+returns-2 c = bit-told 35755 innerCodings refl (c .before .args .x) (omega arith)
 
 pub inner-assigned-spec : {M : Type 1} → statement M
-inner-assigned-spec =
-    tie.close
-    (tie.spec
-    returns
-    returns-2
-    returns-3
-    returns-4
-    returns-5
-    returns-6
-    returns-7
-    returns-8
-    returns-9
-    returns-10)
+inner-assigned-spec = tie.close (tie.spec returns (λ c. search needs) returns-2)

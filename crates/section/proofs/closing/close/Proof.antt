@@ -1,75 +1,30 @@
--- What is met so far, with what the list from here on has, tells what the whole list tells.
-use Prim.Native.Nat.{_-_}
+-- A single revision descriptor by its body, or any list.
 use native.Mathlib.Omega.{arith}
-use mathlib.Core.Path.{_≡_, sym, ap, _∙_}
-use lib.ListN.{length}
+use mathlib.Core.Path.{sym, ap, _∙_}
+use denote.Ref.{now}
 use borrow.Author.Needs.{needs}
-use Rattle.rules.specs.Bytes.{byte, from}
-use Rattle.section.specs.Closes.{closedAs, closedOf}
-use Rattle.fields.proofs.Laws.{at-no}
-use Rattle.section.proofs.Lists.{here, closedWith, close-begin, close-end, close-no, close-pass, close-seen}
+use Rattle.rules.specs.Bytes.{from}
+use Rattle.section.specs.Closes.{closedAs}
+use Rattle.section.proofs.Lists.{close-lone}
 use Rattle.section.proofs.closing.close.Statement.{statement}
 use Rattle.section.proofs.closing.close.Tie as tie
 
-abbrev Inv-loop : tie.InvT-loop
-Inv-loop b start at₀ seen₀ at seen = closedOf (from b start) ≡ closedWith b seen (from b at)
-
-abbrev μ-loop : tie.MeasureT-loop
-μ-loop b start at₀ seen₀ at seen = length b - at
-
-loop-holds : tie.Need-loop-holds Inv-loop μ-loop
-loop-holds c = close-begin _ _
-
-add-seen-with : tie.Need-add-seen-with Inv-loop μ-loop
-add-seen-with c = let h = here _ _ _ (c .before .before .before .before .before .past-one .ensures) _ (c .before .before .before .next .given .1) in omega arith
-
-loop-less : tie.Need-loop-less Inv-loop μ-loop
-loop-less c = let h = here _ _ _ (c .before .before .before .before .before .before .before .past-one .ensures) _ (c .before .before .before .before .before .next .given .1) in omega arith
-
-loop-again : tie.Need-loop-again Inv-loop μ-loop
-unfolding byte
-loop-again c =
-    let h = here _ _ _ (c .before .before .before .before .before .before .before .past-one .ensures) _ (c .before .before .before .before .before .next .given .1) in
-    rw (c .seen-with .ensures, c .before .byte .ensures) (c .before .before .before .before .before .before .before .before .before .loop .inv ∙ close-seen _ _ _ _ h (c .before .before .if1 .taken))
-
-loop-less-2 : tie.Need-loop-less-2 Inv-loop μ-loop
-loop-less-2 c = let h = here _ _ _ (c .before .before .before .before .before .past-one .ensures) _ (c .before .before .before .next .given .1) in omega arith
-
-loop-again-2 : tie.Need-loop-again-2 Inv-loop μ-loop
-unfolding byte
-loop-again-2 c =
-    let h = here _ _ _ (c .before .before .before .before .before .past-one .ensures) _ (c .before .before .before .next .given .1) in
-    c .before .before .before .before .before .before .before .loop .inv ∙ close-pass _ _ _ _ h (c .if1 .left)
-
-returns : tie.Need-returns Inv-loop μ-loop
-unfolding closedAs
+returns : tie.Need-returns
+unfolding from
 returns c =
-    let k = c .before .before .before in
-    sym (ap closedAs (k .before .before .loop .inv ∙ close-no _ _ _ (k .before .loop-test .taken) _ (at-no _ _ _ (k .past-one .ensures) _ (c .before .next2 .given .1))))
-
-returns-2 : tie.Need-returns-2 Inv-loop μ-loop
-returns-2 c = c .judged .ensures ∙ ap closedAs (sym (c .before .before .loop .inv ∙ close-end _ _ _ (omega arith)))
+    let a = c .before .before .before .before .before .args in
+    c .revised .ensures ∙ ap closedAs (sym (close-lone (now (a .b)) (a .start) (c .before .before .before .is-lone-revision .ensures (c .before .before .if1 .taken))))
 
 pub close-spec : {M : Type 1} → statement M
 close-spec =
     tie.close
     (tie.spec
-    Inv-loop
-    μ-loop
-    loop-holds
     (λ c κs. search needs)
-    (λ c. search needs)
-    (λ c. omega arith)
-    add-seen-with
-    (λ c. omega arith)
-    (λ c κs. search needs)
+    (λ c. omega (arith, c .before .is-lone-revision .ensures (c .if1 .taken) .fills))
+    (λ c. omega (arith, c .before .is-lone-revision .ensures (c .if1 .taken) .fills))
+    (λ c. omega (arith, c .before .is-lone-revision .ensures (c .if1 .taken) .fills))
     (λ c. search needs)
     (λ c κs. search needs)
-    loop-less
-    loop-again
-    loop-less-2
-    loop-again-2
-    (λ c. search needs)
     returns
     (λ c κs. search needs)
-    returns-2)
+    (λ c. c .close-list .ensures))
