@@ -145,7 +145,7 @@ pub fn find_carrier(s: State, store: &[u8], index: u8) -> CarrierFound
             let Skip::At(next) = fields::past_counted(b, at + cds::SIZE, true) else {
                 break;
             };
-            let c = cds::carriers_of(fields::part(b, at, cds::SIZE));
+            let c = cds::carriers_of(&b[at..at + cds::SIZE]);
             let takes = c.count;
             if covered(number, takes, index as u32) {
                 return CarrierFound::At(carrier_khz(c, beyond(number, index)));
@@ -180,7 +180,7 @@ pub fn find_mode(s: State, store: &[u8], index: u8) -> ModeFound
                 break;
             };
             if number == index as u32 {
-                return ModeFound::At(mms::mode_of(fields::part(b, at, mms::SIZE)));
+                return ModeFound::At(mms::mode_of(&b[at..at + mms::SIZE]));
             }
             number = number + 1;
             at = next;
@@ -210,7 +210,7 @@ pub fn find_channel(s: State, store: &[u8], number: u16) -> ChannelFound
             let Skip::At(next) = fields::past_counted(b, at + vcm::SIZE, walk.included == 1) else {
                 break;
             };
-            let r = fields::part(b, at, vcm::SIZE);
+            let r = &b[at..at + vcm::SIZE];
             if vcm::number_of(r) == number {
                 return ChannelFound::At(vcm::channel_of(r));
             }
@@ -237,7 +237,7 @@ pub fn is_defined(s: State, store: &[u8], number: u16) -> bool
             let Skip::At(next) = fields::past_counted(b, at + dcm::SIZE, false) else {
                 break;
             };
-            let r = dcm::range_of(fields::part(b, at, dcm::SIZE));
+            let r = dcm::range_of(&b[at..at + dcm::SIZE]);
             if covered(start, r.count, number as u32) {
                 return r.defined == 1;
             }

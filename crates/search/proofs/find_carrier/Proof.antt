@@ -9,7 +9,7 @@ use denote.Ref.{now}
 use Rattle.rules.specs.Layout.{numbered}
 use Rattle.rules.specs.Search.{first}
 use Rattle.rules.proofs.Search.{Before, Within, begin, leave, fits, never, match, pass, nothing}
-use Rattle.fields.proofs.Laws.{at-got, at-no}
+use Rattle.fields.proofs.Laws.{part-whole, at-got, at-no}
 use Rattle.search.proofs.Bridge.{enter-live}
 use Rattle.rules.specs.Tables.{carriersOf, cds}
 use Rattle.rules.specs.Tuning.{isCarrier, carriersIn, liveCount, liveSection, liveRecords}
@@ -48,9 +48,17 @@ add-past-counted : tie.Need-add-past-counted Inv-loop2 μ-loop2 Inv-loop μ-loop
 unfolding cds
 add-past-counted c = omega (arith, fits (c .before .loop2 .inv .0) (omega arith))
 
+fits-here : tie.Need-add-carriers-of Inv-loop2 μ-loop2 Inv-loop μ-loop
+unfolding cds
+fits-here c = omega (arith, fits (c .before .before .before .before .before .loop2 .inv .0) (omega (arith, c .before .before .before .before .loop2-test .taken)))
+
+fits-end : tie.Need-part-carriers-of-end Inv-loop2 μ-loop2 Inv-loop μ-loop
+unfolding cds
+fits-end c = omega (arith, fits (c .before .before .before .before .before .loop2 .inv .0) (omega (arith, c .before .before .before .before .loop2-test .taken)))
+
 returns : tie.Need-returns Inv-loop2 μ-loop2 Inv-loop μ-loop
 unfolding carrierFound isCarrier cds numbered
-returns c = let p = c .before .before .before .before .carriers-of .ensures ∙ ap carriersOf (c .before .before .before .before .before .part .ensures) in
+returns c = let p = c .before .before .before .before .carriers-of .ensures ∙ ap carriersOf (part-whole (c .before .before .before .before .before .before .before .before .before .before .before .before .before .before .live-bytes .result .now) (c .before .before .before .before .before .before .before .before .before .before .before .loop2 .at) 5) in
     rw (c .carrier-khz .ensures, c .before .beyond .ensures, p)
     (ap (carrierFound _) (match (c .before .before .before .before .before .before .before .before .before .before .before .loop2 .inv .0) (omega arith) (rw p at (sym (c .before .before .before .covered .ensures) ∙ c .before .before .if1 .taken))))
 
@@ -58,7 +66,7 @@ loop2-again : tie.Need-loop2-again Inv-loop2 μ-loop2 Inv-loop μ-loop
 unfolding isCarrier cds numbered
 loop2-again c = let s = c .before .before .before .before .before .before .before .past-counted .ensures in
     let e = c .before .before .before .before .before .next .given .1 in
-    let p = c .before .before .carriers-of .ensures ∙ ap carriersOf (c .before .before .before .part .ensures) in
+    let p = c .before .before .carriers-of .ensures ∙ ap carriersOf (part-whole (c .before .before .before .before .before .before .before .before .before .before .before .before .live-bytes .result .now) (c .before .before .before .before .before .before .before .before .before .loop2 .at) 5) in
     (pass (c .before .before .before .before .before .before .before .before .before .loop2 .inv .0) (omega arith) (rw p) (at-got _ _ _ s _ e .1) (rw p at (sym (c .before .covered .ensures) ∙ c .if1 .left)), omega arith)
 
 loop-again : tie.Need-loop-again Inv-loop2 μ-loop2 Inv-loop μ-loop
@@ -90,7 +98,10 @@ find-carrier-spec =
     (λ c κs. search needs)
     (λ c. search needs)
     (λ c. search needs)
-    (λ c κs. search needs)
+    fits-here
+    (λ c. search needs)
+    (λ c. search needs)
+    fits-end
     (λ c κs. search needs)
     (λ c κs. search needs)
     (λ c κs. search needs)

@@ -9,7 +9,7 @@ use denote.Ref.{now}
 use Rattle.rules.specs.Layout.{numbered}
 use Rattle.rules.specs.Search.{first}
 use Rattle.rules.proofs.Search.{Before, Within, begin, leave, fits, never, match, pass, nothing}
-use Rattle.fields.proofs.Laws.{at-got, at-no}
+use Rattle.fields.proofs.Laws.{part-whole, at-got, at-no}
 use Rattle.search.proofs.Bridge.{enter-live}
 use borrow.Author.Tests.{eq-eqb, ne-eqb}
 use Rattle.rules.specs.Tables.{vcm}
@@ -50,16 +50,24 @@ add-past-counted : tie.Need-add-past-counted Inv-loop2 μ-loop2 Inv-loop μ-loop
 unfolding vcm
 add-past-counted c = omega (arith, fits (c .before .loop2 .inv) (omega arith))
 
+fits-here : tie.Need-add-r Inv-loop2 μ-loop2 Inv-loop μ-loop
+unfolding vcm
+fits-here c = omega (arith, fits (c .before .before .before .before .before .before .loop2 .inv) (omega (arith, c .before .before .before .before .before .loop2-test .taken)))
+
+fits-end : tie.Need-part-r-end Inv-loop2 μ-loop2 Inv-loop μ-loop
+unfolding vcm
+fits-end c = omega (arith, fits (c .before .before .before .before .before .before .loop2 .inv) (omega (arith, c .before .before .before .before .before .loop2-test .taken)))
+
 returns : tie.Need-returns Inv-loop2 μ-loop2 Inv-loop μ-loop
 unfolding channelFound isChannel vcm numbered
-returns c = let p = c .before .before .before .part .ensures in
+returns c = let p = part-whole (c .before .before .before .before .before .before .before .before .before .before .before .before .live-bytes .result .now) (c .before .before .before .before .before .before .before .before .before .before .loop2 .at) 9 in
     rw (c .channel-of .ensures, p) (ap channelFound (match (c .before .before .before .before .before .before .before .before .before .before .loop2 .inv) (omega arith) (eq-eqb _ _ (rw p at (sym (c .before .before .number-of .ensures) ∙ c .before .if1 .taken)))))
 
 loop2-again : tie.Need-loop2-again Inv-loop2 μ-loop2 Inv-loop μ-loop
 unfolding isChannel vcm numbered
 loop2-again c = let s = c .before .before .before .before .before .before .past-counted .ensures in
     let e = c .before .before .before .before .next .given .1 in
-    let p = c .before .before .part .ensures in
+    let p = part-whole (c .before .before .before .before .before .before .before .before .before .before .before .live-bytes .result .now) (c .before .before .before .before .before .before .before .before .before .loop2 .at) 9 in
     pass (c .before .before .before .before .before .before .before .before .before .loop2 .inv) (omega arith) refl (at-got _ _ _ s _ e .1) (rw (← p, ← c .before .number-of .ensures) (ne-eqb _ _ (c .if1 .left)))
 
 loop-again : tie.Need-loop-again Inv-loop2 μ-loop2 Inv-loop μ-loop
@@ -90,7 +98,10 @@ find-channel-spec =
     (λ c κs. search needs)
     (λ c. search needs)
     (λ c. search needs)
-    (λ c κs. search needs)
+    fits-here
+    (λ c. search needs)
+    (λ c. search needs)
+    fits-end
     (λ c κs. search needs)
     (λ c κs. search needs)
     returns

@@ -13,7 +13,7 @@ use Rattle.rules.specs.Search.{first}
 use Rattle.rules.specs.Tuning.{isMode, modesIn, liveCount, liveSection, liveRecords}
 use Rattle.rules.specs.declared.Table.the-variants.{Mms}
 use Rattle.rules.proofs.Search.{Before, Within, begin, leave, fits, never, match, pass, nothing}
-use Rattle.fields.proofs.Laws.{at-got, at-no}
+use Rattle.fields.proofs.Laws.{part-whole, at-got, at-no}
 use Rattle.search.specs.Live.{modeFound}
 use Rattle.search.proofs.Bridge.{enter-live}
 use Rattle.search.proofs.find_mode.Statement.{statement}
@@ -49,9 +49,17 @@ add-past-counted : tie.Need-add-past-counted Inv-loop2 μ-loop2 Inv-loop μ-loop
 unfolding mms
 add-past-counted c = omega (arith, fits (c .before .loop2 .inv .0) (omega arith))
 
+fits-here : tie.Need-add-mode-of Inv-loop2 μ-loop2 Inv-loop μ-loop
+unfolding mms
+fits-here c = omega (arith, fits (c .before .before .before .before .before .before .loop2 .inv .0) (omega (arith, c .before .before .before .before .before .loop2-test .taken)))
+
+fits-end : tie.Need-part-mode-of-end Inv-loop2 μ-loop2 Inv-loop μ-loop
+unfolding mms
+fits-end c = omega (arith, fits (c .before .before .before .before .before .before .loop2 .inv .0) (omega (arith, c .before .before .before .before .before .loop2-test .taken)))
+
 returns : tie.Need-returns Inv-loop2 μ-loop2 Inv-loop μ-loop
 unfolding modeFound isMode mms numbered
-returns c = rw (c .mode-of .ensures, c .before .part .ensures) (ap modeFound (match (c .before .before .before .before .before .before .before .before .loop2 .inv .0) (omega arith) (eq-eqb _ _ (c .before .before .if1 .taken))))
+returns c = rw (c .mode-of .ensures, part-whole (c .before .before .before .before .before .before .before .before .before .before .before .live-bytes .result .now) (c .before .before .before .before .before .before .before .before .loop2 .at) 6) (ap modeFound (match (c .before .before .before .before .before .before .before .before .loop2 .inv .0) (omega arith) (eq-eqb _ _ (c .before .before .if1 .taken))))
 
 loop2-again : tie.Need-loop2-again Inv-loop2 μ-loop2 Inv-loop μ-loop
 unfolding isMode mms numbered
@@ -88,7 +96,10 @@ find-mode-spec =
     (λ c κs. search needs)
     (λ c. search needs)
     (λ c. search needs)
-    (λ c κs. search needs)
+    fits-here
+    (λ c. search needs)
+    (λ c. search needs)
+    fits-end
     (λ c κs. search needs)
     returns
     (λ c. search needs)

@@ -9,7 +9,7 @@ use denote.Ref.{now}
 use Rattle.rules.specs.Layout.{numbered}
 use Rattle.rules.specs.Search.{first}
 use Rattle.rules.proofs.Search.{Before, Within, begin, leave, fits, never, match, pass, nothing}
-use Rattle.fields.proofs.Laws.{at-got, at-no}
+use Rattle.fields.proofs.Laws.{part-whole, at-got, at-no}
 use Rattle.search.proofs.Bridge.{enter-live}
 use Rattle.rules.specs.Tables.{rangeOf, dcm}
 use Rattle.rules.specs.Tuning.{isRange, rangesIn, liveCount, liveSection, liveRecords, definedBy, defined}
@@ -47,15 +47,24 @@ add-past-counted : tie.Need-add-past-counted Inv-loop2 μ-loop2 Inv-loop μ-loop
 unfolding dcm
 add-past-counted c = omega (arith, fits (c .before .loop2 .inv .0) (omega arith))
 
+fits-here : tie.Need-add-range-of Inv-loop2 μ-loop2 Inv-loop μ-loop
+unfolding dcm
+fits-here c = omega (arith, fits (c .before .before .before .before .before .loop2 .inv .0) (omega (arith, c .before .before .before .before .loop2-test .taken)))
+
+fits-end : tie.Need-part-range-of-end Inv-loop2 μ-loop2 Inv-loop μ-loop
+unfolding dcm
+fits-end c = omega (arith, fits (c .before .before .before .before .before .loop2 .inv .0) (omega (arith, c .before .before .before .before .loop2-test .taken)))
+
 returns : tie.Need-returns Inv-loop2 μ-loop2 Inv-loop μ-loop
 unfolding defined definedBy isRange dcm numbered
-returns c = rw (c .before .before .before .range-of .ensures, c .before .before .before .before .part .ensures) (ap definedBy (match (c .before .before .before .before .before .before .before .before .before .before .loop2 .inv .0) (omega arith) (cc)))
+returns c = let p = part-whole (c .before .before .before .before .before .before .before .before .before .before .before .before .before .live-bytes .result .now) (c .before .before .before .before .before .before .before .before .before .before .loop2 .at) 1 in
+    rw (c .before .before .before .range-of .ensures, p) (ap definedBy (match (c .before .before .before .before .before .before .before .before .before .before .loop2 .inv .0) (omega arith) (cc)))
 
 loop2-again : tie.Need-loop2-again Inv-loop2 μ-loop2 Inv-loop μ-loop
 unfolding isRange dcm numbered
 loop2-again c = let s = c .before .before .before .before .before .before .before .before .past-counted .ensures in
     let e = c .before .before .before .before .before .before .next .given .1 in
-    let p = c .before .before .before .range-of .ensures ∙ ap rangeOf (c .before .before .before .before .part .ensures) in
+    let p = c .before .before .before .range-of .ensures ∙ ap rangeOf (part-whole (c .before .before .before .before .before .before .before .before .before .before .before .before .before .live-bytes .result .now) (c .before .before .before .before .before .before .before .before .before .before .loop2 .at) 1) in
     (pass (c .before .before .before .before .before .before .before .before .before .before .loop2 .inv .0) (omega arith) (rw p) (at-got _ _ _ s _ e .1) (cc), omega arith)
 
 loop-again : tie.Need-loop-again Inv-loop2 μ-loop2 Inv-loop μ-loop
@@ -87,7 +96,10 @@ is-defined-spec =
     (λ c κs. search needs)
     (λ c. search needs)
     (λ c. search needs)
-    (λ c κs. search needs)
+    fits-here
+    (λ c. search needs)
+    (λ c. search needs)
+    fits-end
     (λ c κs. search needs)
     (λ c κs. search needs)
     returns
