@@ -71,8 +71,8 @@ module _ {M : Type 1} (𝓤 : URA M) (H : Heap 𝓤) (A : Atoms 𝓤) (mem : Mem
   pub listed_defined-determined : Determined 𝓤 {T = listed_defined.ended} (listed_defined.clauses 𝓤 H A mem run) (λ κs r e. r)
   listed_defined-determined = determined-by 𝓤 {T = listed_defined.ended} (listed_defined.clauses 𝓤 H A mem run) _ _ (λ κs a g r e. id⊢ 𝓤 _)
 
-  -- what the entries name, one after the other; the table and the store that they are read by are arguments, so `Determined` doesn't
-  -- say it
+  -- what the entries name, one after the other. The table and the store by which they are read are arguments (a .1 .1 .0 and
+  -- a .1 .0), of which an outcome of `Determined` cannot speak, so it is written out
   pub list_records-determined :
       (κs : Lfts (list_records.ended .signature .lifetimes)) (a : Args (list_records.ended .signature) κs) (g : list_records.clauses 𝓤 H A mem run κs a .ghost)
       (r r′ : Res (list_records.ended .signature) κs) (e e′ : AtExit list_records.ended κs)
