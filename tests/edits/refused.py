@@ -10,8 +10,9 @@ must have refused this answer: of code a function (or several), whose own proof 
 a theorem, or a part of one as THEOREM.PART. A declaration that was refused only because it rests on one that was refused doesn't
 count, and nor does one that names something which isn't there. Of one edit no two answers name the same place.
 
-It also holds docs/PROMISES.md to the tree: every label is named there, and how many there are; and every public function has its
-theorem in proofs/Determined.antt. Run it behind rt ci or rt must-fail, in the repository's root.
+It also holds docs/PROMISES.md to the tree: every label is named there, and how many there are; and every public function, those of
+public modules too, has its theorem in proofs/Determined.antt, which says `Determined` of it but for the exceptions below. Run it
+behind rt ci or rt must-fail, in the repository's root.
 """
 import pathlib
 import re
@@ -21,6 +22,9 @@ WRONG = re.compile(r"wrong ([a-z0-9_]+): ([^:]+(?:::[^:]+)*): (.+)")
 ERROR = re.compile(r"^(\S+):(\d+):\d+: error: `([^`]+)`: (.*)$")
 FOLLOWS = re.compile(r"`[^`]+` (?:was not admitted|cannot be unfolded because it was not admitted)|.*is not in scope")
 PUBLIC = re.compile(r'^pub (?:extern "C" )?fn (\w+)', re.MULTILINE)
+MODULE = re.compile(r"^pub mod (\w+);", re.MULTILINE)
+# lent numbers of which only what they mean is promised: docs/PROMISES.md, "The exceptions"
+BY_MEANING = {("search", "list_records")}
 
 
 def fail(text):
@@ -119,6 +123,13 @@ def each_refused(root, edits):
     return labels
 
 
+def public_functions(source):
+    """Those of a crate's lib.rt and of its public modules."""
+    text = source.read_text(encoding="utf-8")
+    modules = [source.parent / f"{module}.rt" for module in MODULE.findall(text)]
+    return PUBLIC.findall("\n".join([text] + [module.read_text(encoding="utf-8") for module in modules]))
+
+
 def promised(root, labels, edits):
     """docs/PROMISES.md names every label and says how many there are; every public function is determined."""
     promises = (root / "docs" / "PROMISES.md").read_text(encoding="utf-8")
@@ -131,10 +142,12 @@ def promised(root, labels, edits):
         fail(f"docs/PROMISES.md does not say '{len(labels)} of them, in {len(edits)} edits'")
     functions = 0
     for source in sorted(root.glob("crates/*/src/lib.rt")):
+        crate = source.parent.parent.name
         theorems = source.parent.parent / "proofs" / "Determined.antt"
-        for function in PUBLIC.findall(source.read_text(encoding="utf-8")):
-            if not theorems.is_file() or f"pub {function}-determined :" not in theorems.read_text(encoding="utf-8"):
-                fail(f"{theorems} has no {function}-determined")
+        for function in public_functions(source):
+            says = "" if (crate, function) in BY_MEANING else " Determined "
+            if not theorems.is_file() or f"pub {function}-determined :{says}" not in theorems.read_text(encoding="utf-8"):
+                fail(f"{theorems} has no {function}-determined, or it doesn't say 'Determined'")
             functions += 1
     if not re.search(rf"\b{functions} public functions", promises):
         fail(f"docs/PROMISES.md does not speak of 'the {functions} public functions'")

@@ -115,6 +115,7 @@ pub fn list_records(s: State, store: &[u8], t: Table, entries: &mut [u64])
     requires { ⌜ Live s (now store) t ⌝ }
     requires { ⌜ Blank (now entries) ⌝ }
     ensures { λ _. ⌜ Lists s (now (store .entry)) t (now (entries .exit)) ⌝ }
+    ensures { λ _. ⌜ length (now (entries .exit)) ≡ length (now (entries .entry)) ⌝ }
 {
     let h = state::holding_of(s, t);
     let sections = h.live.last + 1;

@@ -45,10 +45,10 @@ listed-lines-requires c κs =
       checked,
       (
         record {
-          ranges-listed = record { long = c .before .before .before .before .before .before .before .before .before .before .before .before .before .before .ranges2 .given; lists = c .before .before .before .before .before .before .before .before .before .before .before .before .before .before .before .list-records .ensures };
-          channels-listed = record { long = c .before .before .before .before .before .before .before .before .before .before .before .channels2 .given; lists = c .before .before .before .before .before .before .before .before .before .before .before .before .list-records2 .ensures };
-          carriers-listed = record { long = c .before .before .before .before .before .before .before .before .carriers2 .given; lists = c .before .before .before .before .before .before .before .before .before .list-records3 .ensures };
-          modes-listed = record { long = c .before .before .before .before .before .modes2 .given; lists = c .before .before .before .before .before .before .list-records4 .ensures };
+          ranges-listed = record { long = c .before .before .before .before .before .before .before .before .before .before .before .before .before .before .ranges2 .given; lists = c .before .before .before .before .before .before .before .before .before .before .before .before .before .before .before .list-records .ensures .0 };
+          channels-listed = record { long = c .before .before .before .before .before .before .before .before .before .before .before .channels2 .given; lists = c .before .before .before .before .before .before .before .before .before .before .before .before .list-records2 .ensures .0 };
+          carriers-listed = record { long = c .before .before .before .before .before .before .before .before .carriers2 .given; lists = c .before .before .before .before .before .before .before .before .before .list-records3 .ensures .0 };
+          modes-listed = record { long = c .before .before .before .before .before .modes2 .given; lists = c .before .before .before .before .before .before .list-records4 .ensures .0 };
         },
         search needs,
       ),

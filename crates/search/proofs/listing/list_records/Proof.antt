@@ -91,7 +91,7 @@ loop-again c =
 returns : tie.Need-returns Inv-loop2 μ-loop2 Inv-loop μ-loop
 unfolding liveCount
 returns c = let a = c .before .before .before .before .before .before .args in
-    lists (a .s) (now (a .store)) (a .t) _ (c .before .loop .i) (omega (arith, c .loop-test .left, last-same (c .before .before .before .holding-of .ensures))) (c .before .loop .inv .1)
+    (lists (a .s) (now (a .store)) (a .t) _ (c .before .loop .i) (omega (arith, c .loop-test .left, last-same (c .before .before .before .holding-of .ensures))) (c .before .loop .inv .1), c .before .loop .inv .0)
 
 pub list-records-spec : {M : Type 1} → statement M
 list-records-spec =
