@@ -9,11 +9,11 @@ use prog.Wp.{Heap}
 use Rattle.rules.proofs.Determined.{Determined, determined-by, determined-once}
 use Rattle.fields.proofs.Laws.{stands-once}
 use Rattle.cds.proofs.carriers_of
-use Rattle.cds.proofs.carriers_step
+use Rattle.cds.proofs.past_carriers
 
 module _ {M : Type 1} (𝓤 : URA M) (H : Heap 𝓤) (A : Atoms 𝓤) (mem : Memory → SProp 𝓤) (run : Routine → Fun 𝓤) where
   pub carriers_of-determined : Determined 𝓤 {T = carriers_of.ended} (carriers_of.clauses 𝓤 H A mem run) (λ κs r e. r)
   carriers_of-determined = determined-by 𝓤 {T = carriers_of.ended} (carriers_of.clauses 𝓤 H A mem run) _ _ (λ κs a g r e. id⊢ 𝓤 _)
 
-  pub carriers_step-determined : Determined 𝓤 {T = carriers_step.ended} (carriers_step.clauses 𝓤 H A mem run) (λ κs r e. r)
-  carriers_step-determined = determined-once 𝓤 {T = carriers_step.ended} (carriers_step.clauses 𝓤 H A mem run) _ _ (λ κs a g r e. id⊢ 𝓤 _) (λ κs a g r r′ e e′ s t. stands-once _ r r′ _ s t)
+  pub past_carriers-determined : Determined 𝓤 {T = past_carriers.ended} (past_carriers.clauses 𝓤 H A mem run) (λ κs r e. r)
+  past_carriers-determined = determined-once 𝓤 {T = past_carriers.ended} (past_carriers.clauses 𝓤 H A mem run) _ _ (λ κs a g r e. id⊢ 𝓤 _) (λ κs a g r r′ e e′ s t. stands-once _ r r′ _ s t)

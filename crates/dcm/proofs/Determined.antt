@@ -12,7 +12,7 @@ use Rattle.fields.proofs.Laws.{stands-once}
 use Rattle.dcm.proofs.head_zeros
 use Rattle.dcm.proofs.head_of
 use Rattle.dcm.proofs.range_of
-use Rattle.dcm.proofs.range_step
+use Rattle.dcm.proofs.past_ranges
 
 module _ {M : Type 1} (𝓤 : URA M) (H : Heap 𝓤) (A : Atoms 𝓤) (mem : Memory → SProp 𝓤) (run : Routine → Fun 𝓤) where
   pub head_zeros-determined : Determined 𝓤 {T = head_zeros.ended} (head_zeros.clauses 𝓤 H A mem run) (λ κs r e. r)
@@ -24,5 +24,5 @@ module _ {M : Type 1} (𝓤 : URA M) (H : Heap 𝓤) (A : Atoms 𝓤) (mem : Mem
   pub range_of-determined : Determined 𝓤 {T = range_of.ended} (range_of.clauses 𝓤 H A mem run) (λ κs r e. r)
   range_of-determined = determined-by 𝓤 {T = range_of.ended} (range_of.clauses 𝓤 H A mem run) _ _ (λ κs a g r e. id⊢ 𝓤 _)
 
-  pub range_step-determined : Determined 𝓤 {T = range_step.ended} (range_step.clauses 𝓤 H A mem run) (λ κs r e. r)
-  range_step-determined = determined-once 𝓤 {T = range_step.ended} (range_step.clauses 𝓤 H A mem run) _ _ (λ κs a g r e. id⊢ 𝓤 _) (λ κs a g r r′ e e′ s t. stands-once _ r r′ _ s t)
+  pub past_ranges-determined : Determined 𝓤 {T = past_ranges.ended} (past_ranges.clauses 𝓤 H A mem run) (λ κs r e. r)
+  past_ranges-determined = determined-once 𝓤 {T = past_ranges.ended} (past_ranges.clauses 𝓤 H A mem run) _ _ (λ κs a g r e. id⊢ 𝓤 _) (λ κs a g r r′ e e′ s t. stands-once _ r r′ _ s t)

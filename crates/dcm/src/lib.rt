@@ -4,7 +4,7 @@ ghost use mathlib.Core.Bool.{true};
 ghost use Prim.Native.Nat.{_+_, _≤_, _<_};
 ghost use lib.ListN.{length};
 ghost use Rattle.rules.specs.Bytes.{from};
-ghost use Rattle.rules.specs.Layout.{entry};
+ghost use Rattle.rules.specs.Layout.{entry, records};
 ghost use Rattle.rules.specs.Tables.{dcmHeadZeros, dcmHeadOf, rangeOf, rangeFair, dcm};
 ghost use Rattle.fields.specs.Place.{Stands, Skims};
 ghost use Rattle.fields.specs.declared.Skip.the-variants as skip;
@@ -66,7 +66,7 @@ fn range_fair(first: u32, r: Range) -> bool
 }
 
 // The place behind the range byte at a place, whose first channel is given; or 8, 10.
-pub fn range_step(b: &[u8], at: usize, first: u16) -> Skip
+fn range_step(b: &[u8], at: usize, first: u16) -> Skip
     ensures { λ r. ⌜ Stands (now (b .entry)) r (entry dcm first (from (now (b .entry)) at)) ⌝ }
 {
     if fields::short(b, at, SIZE) {
@@ -90,7 +90,7 @@ fn is_plain(b: &[u8], at: usize, first: u32) -> bool
 }
 
 // Over the records that are right, as far as they go: the short way for what a plant mostly sends.
-pub fn skim(b: &[u8], start: usize, first: u16, count: u8) -> Reached
+fn skim(b: &[u8], start: usize, first: u16, count: u8) -> Reached
     requires { ⌜ start ≤ length (now b) ⌝ }
     ensures { λ r. ⌜ Skims dcm count first (now (b .entry)) start r ⌝ }
 {
@@ -110,4 +110,30 @@ pub fn skim(b: &[u8], start: usize, first: u16, count: u8) -> Reached
         index: index as u16,
         left,
     }
+}
+
+// The place behind so many records, the first of them at a place and an index; or 8, 9, 10. The short way first, and from where that stops
+// record by record.
+pub fn past_ranges(b: &[u8], start: usize, first: u16, count: u8) -> Skip
+    requires { ⌜ start ≤ length (now b) ⌝ }
+    ensures { λ r. ⌜ Stands (now (b .entry)) r (records dcm count first (from (now (b .entry)) start)) ⌝ }
+{
+    let reached = skim(b, start, first, count);
+    let mut at = reached.at;
+    let mut index = reached.index;
+    let mut left = reached.left;
+    while 0 < left {
+        let next = range_step(b, at, index);
+        match next {
+            Skip::At(i) => {
+                index = index + (fields::byte(b, at) % 128) as u16;
+                at = i;
+                left -= 1;
+            }
+            Skip::Refused(n) => {
+                return Skip::Refused(n);
+            }
+        }
+    }
+    Skip::At(at)
 }

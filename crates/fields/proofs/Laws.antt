@@ -14,8 +14,7 @@ use Rattle.rules.specs.Descriptors.{descriptor, passed, counted}
 use Rattle.rules.specs.Layout.{Layout, Numbered, numbered, bare, entry, after, records, head}
 use Rattle.rules.proofs.Taken.{taken, bare-so}
 use Rattle.rules.proofs.Places.{from-from, from-length, same-place, descAt, behind}
-use Rattle.fields.specs.Place.{Left, left, no, leftOf, leftAt, inside, Stands, cutShort, Skims}
-use Rattle.fields.specs.declared.Reached.{Reached}
+use Rattle.fields.specs.Place.{Left, left, no, leftOf, leftAt, inside, Stands, cutShort}
 use Rattle.fields.specs.declared.Skip.{Skip}
 use Rattle.fields.specs.declared.Skip.the-variants.{At, Refused}
 
@@ -219,14 +218,3 @@ stands-once b (At i) (At j) g s t = let e : from b i ≡ from b j = cc in ap At 
 stands-once b (At i) (Refused n) g s t = let z : _≡_ {A = ℕ} 0 1 = cc in absurd (omega arith)
 stands-once b (Refused m) (At j) g s t = let z : _≡_ {A = ℕ} 0 1 = cc in absurd (omega arith)
 stands-once b (Refused m) (Refused n) g s t = cc
-
--- ---- the short way over records
-
-module _ {R : Type 0} (l : Layout R) (b : List ℕ) where
-  -- where no record is left it has come to their end; else the walk over the rest leaves what the whole walk leaves
-  pub skimmed-all : (count index at : ℕ) (r : Reached) → Skims l count index b at r → r .left ≡ 0 → Stands b (At (r .at)) (records l count index (from b at))
-  unfolding records leftOf
-  skimmed-all count index at r s e = record { means = sym (s .same ∙ rw e); within = s .within }
-
-  pub skimmed-rest : (count index at : ℕ) (r : Reached) → Skims l count index b at r → (k : Skip) → Stands b k (records l (r .left) (r .index) (from b (r .at))) → Stands b k (records l count index (from b at))
-  skimmed-rest count index at r s k t = record { means = t .means ∙ sym (s .same); within = t .within }

@@ -12,7 +12,7 @@ use lib.Dec.{eqb}
 use borrow.Author.Tests.{eqb-true, eqb-false}
 use Rattle.rules.specs.Bytes.{got, from}
 use Rattle.rules.specs.Descriptors.{counted}
-use Rattle.rules.specs.Layout.{Layout, Numbered, numbered}
+use Rattle.rules.specs.Layout.{Numbered, numbered}
 use Rattle.rules.specs.Tables.{cds, mms, vcm, dcm}
 use Rattle.rules.specs.Section.{lengthOf, withoutCrc}
 use Rattle.rules.specs.Holding.{four, limitOf, placeOf, sectionAt, holdingOf, liveAt}

@@ -1,22 +1,21 @@
 -- What the layouts of the tables have in common, and where the records of each structure stand.
-use Prim.Native.Nat.{ℕ, _+_, _≤_, _<_}
+use Prim.Native.Nat.{ℕ, zero, suc, _+_, _≤_}
 use native.Mathlib.Omega.{arith}
-use mathlib.Core.Path.{_≡_, refl, sym, subst, _∙_}
+use mathlib.Core.Path.{_≡_, refl, sym, ap, subst, _∙_}
 use mathlib.Core.Bool.{Bool, true, false}
-use mathlib.Core.List.{List}
+use mathlib.Core.List.{List, _∷_}
 use lib.ListN.{length}
-use lib.Dec.{leb, ltb}
-use borrow.Author.Tests.{leb-true}
 use Rattle.rules.specs.Bytes.{Got, refused, got, unless, andThen, giving, from}
 use Rattle.rules.specs.Descriptors.{counted}
-use Rattle.rules.specs.Layout.{Layout, Numbered, numbered, bare, entry, records, head}
-use Rattle.rules.specs.Tables.{carriersFair, cds, assigned, modeFair, mms, vcmHead, channelFair, vcm, dcmHead, rangeFair, dcm}
+use Rattle.rules.specs.Layout.{Layout, Numbered, numbered, bare, entry, after, records, head}
+use Rattle.rules.specs.Tables.{vcmHead, channelFair, vcm, dcmHead}
 use Rattle.rules.specs.Section.{Structure, channels, ranges, structure, recordsAt, countOf}
 use Rattle.rules.specs.declared.Table.{Table}
 use Rattle.rules.specs.declared.Table.the-variants.{Cds, Mms, Vcm, Dcm}
+use Rattle.rules.specs.declared.Channel.{Channel}
 use Rattle.rules.specs.declared.VcmHead.{VcmHead}
 use Rattle.rules.specs.declared.DcmHead.{DcmHead}
-use Rattle.rules.proofs.Taken.{both-right, giving-got, head-got, records-count}
+use Rattle.rules.proofs.Taken.{giving-got, head-got, records-count}
 use Rattle.rules.proofs.Places.{from-from, from-length}
 use Rattle.fields.specs.Place.{leftOf, Stands}
 use Rattle.fields.specs.declared.Skip.{Skip}
@@ -24,21 +23,10 @@ use Rattle.section.specs.Kinds.{RecordOf, layoutOf, headed, outlineOf}
 use Rattle.section.specs.declared.structure.Outline.{Outline}
 use Rattle.section.specs.declared.structure.Outline.the-variants as outline
 use Rattle.section.specs.declared.structure.Kind.{Kind}
-use Rattle.section.specs.declared.structure.Kind.the-variants.{Carriers, Modes, Channels, Ranges}
-
-pub step-as : (k j : Kind) → k ≡ j → (index : ℕ) (b : List ℕ) (r : Skip) (bs : List ℕ) → Stands b r (entry (layoutOf j) index bs) → Stands b r (entry (layoutOf k) index bs)
-step-as k j e index b r bs s = subst (λ (x : Kind). Stands b r (entry (layoutOf x) index bs)) (sym e) s
+use Rattle.section.specs.declared.structure.Kind.the-variants.{Channels, Ranges}
 
 pub records-as : (k j : Kind) → k ≡ j → (count index : ℕ) (b : List ℕ) (r : Skip) (bs : List ℕ) → Stands b r (records (layoutOf j) count index bs) → Stands b r (records (layoutOf k) count index bs)
 records-as k j e count index b r bs s = subst (λ (x : Kind). Stands b r (records (layoutOf x) count index bs)) (sym e) s
-
--- the limits keep an index below 65,536
-pub top : (k : Kind) (index : ℕ) (r : RecordOf k) → index < 65536 → layoutOf k .fair index r ≡ true → index + layoutOf k .takes r < 65536
-unfolding layoutOf cds carriersFair mms modeFair vcm dcm rangeFair
-top Carriers index r h e = let l = leb-true (index + r .count) 256 (both-right (ltb 0 (r .count)) (leb (index + r .count) 256) e) in omega arith
-top Modes index r h e = let l = leb-true index 255 (both-right (assigned r) (leb index 255) e) in omega arith
-top (Channels included) index r h e = omega arith
-top Ranges index r h e = let l = leb-true (index + r .count) 4096 (both-right (ltb 0 (r .count)) (leb (index + r .count) 4096) e) in omega arith
 
 -- the index is not looked at in a channel record
 same-left : {R : Type 0} (x y z d : Bool) (a b : R) (rest : List ℕ) → leftOf (andThen (unless x 8 (unless y 9 (unless z 10 (got a rest)))) (λ r l. giving (λ u. r) (counted d l))) ≡ leftOf (andThen (unless x 8 (unless y 9 (unless z 10 (got b rest)))) (λ r l. giving (λ u. r) (counted d l)))
@@ -52,10 +40,37 @@ same-left true true false d a b rest = refl
 same-left true false z d a b rest = refl
 same-left false y z d a b rest = refl
 
-pub any-index : (included index : ℕ) (b : List ℕ) (r : Skip) (bs : List ℕ) → Stands b r (entry (vcm included) 0 bs) → Stands b r (entry (vcm included) index bs)
+same-entry : (included i j : ℕ) (bs : List ℕ) → leftOf (entry (vcm included) i bs) ≡ leftOf (entry (vcm included) j bs)
 unfolding entry bare vcm channelFair
-any-index included index b r bs s =
-    record { means = s .means ∙ same-left _ _ _ _ (numbered (vcm included) 0 bs) (numbered (vcm included) index bs) (from bs 9); within = s .within }
+same-entry included i j bs = same-left _ _ _ _ (numbered (vcm included) i bs) (numbered (vcm included) j bs) (from bs 9)
+
+left-giving : {A B : Type 0} (f : A → B) (g : Got A) → leftOf (giving f g) ≡ leftOf g
+unfolding leftOf giving
+left-giving f (refused n) = refl
+left-giving f (got a rest) = refl
+
+-- nor in so many of them
+same-records : (included n i j : ℕ) (bs : List ℕ) → leftOf (records (vcm included) n i bs) ≡ leftOf (records (vcm included) n j bs)
+unfolding records andThen leftOf
+same-records included zero i j bs = refl
+same-records included (suc n) i j bs = go (entry (vcm included) i bs) (entry (vcm included) j bs) (same-entry included i j bs) (same-records included n)
+  where
+    go : (g h : Got (Numbered Channel)) → leftOf g ≡ leftOf h
+        → ((i j : ℕ) (bs : List ℕ) → leftOf (records (vcm included) n i bs) ≡ leftOf (records (vcm included) n j bs))
+        → leftOf (andThen g (λ r rest. giving (λ rs. r ∷ rs) (records (vcm included) n (after (vcm included) r) rest)))
+        ≡ leftOf (andThen h (λ r rest. giving (λ rs. r ∷ rs) (records (vcm included) n (after (vcm included) r) rest)))
+    go (refused a) (refused b) e fewer = e
+    go (refused a) (got r rest) e fewer = let z : _≡_ {A = ℕ} 0 1 = cc in absurd (omega arith)
+    go (got r rest) (refused b) e fewer = let z : _≡_ {A = ℕ} 0 1 = cc in absurd (omega arith)
+    go (got r rest) (got q more) e fewer =
+        let same : rest ≡ more = cc in
+        left-giving (λ rs. r ∷ rs) (records (vcm included) n (after (vcm included) r) rest)
+        ∙ fewer (after (vcm included) r) (after (vcm included) q) rest
+        ∙ ap (λ (l : List ℕ). leftOf (records (vcm included) n (after (vcm included) q) l)) same
+        ∙ sym (left-giving (λ rs. q ∷ rs) (records (vcm included) n (after (vcm included) q) more))
+
+pub any-index : (included count index : ℕ) (b : List ℕ) (r : Skip) (bs : List ℕ) → Stands b r (records (vcm included) count 0 bs) → Stands b r (records (vcm included) count index bs)
+any-index included count index b r bs s = record { means = s .means ∙ same-records included count 0 index bs; within = s .within }
 
 -- ---- where the records stand
 

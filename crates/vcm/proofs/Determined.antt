@@ -13,7 +13,7 @@ use Rattle.vcm.proofs.head_zeros
 use Rattle.vcm.proofs.head_of
 use Rattle.vcm.proofs.number_of
 use Rattle.vcm.proofs.channel_of
-use Rattle.vcm.proofs.channel_step
+use Rattle.vcm.proofs.past_channels
 
 module _ {M : Type 1} (𝓤 : URA M) (H : Heap 𝓤) (A : Atoms 𝓤) (mem : Memory → SProp 𝓤) (run : Routine → Fun 𝓤) where
   pub head_zeros-determined : Determined 𝓤 {T = head_zeros.ended} (head_zeros.clauses 𝓤 H A mem run) (λ κs r e. r)
@@ -28,5 +28,5 @@ module _ {M : Type 1} (𝓤 : URA M) (H : Heap 𝓤) (A : Atoms 𝓤) (mem : Mem
   pub channel_of-determined : Determined 𝓤 {T = channel_of.ended} (channel_of.clauses 𝓤 H A mem run) (λ κs r e. r)
   channel_of-determined = determined-by 𝓤 {T = channel_of.ended} (channel_of.clauses 𝓤 H A mem run) _ _ (λ κs a g r e. id⊢ 𝓤 _)
 
-  pub channel_step-determined : Determined 𝓤 {T = channel_step.ended} (channel_step.clauses 𝓤 H A mem run) (λ κs r e. r)
-  channel_step-determined = determined-once 𝓤 {T = channel_step.ended} (channel_step.clauses 𝓤 H A mem run) _ _ (λ κs a g r e. id⊢ 𝓤 _) (λ κs a g r r′ e e′ s t. stands-once _ r r′ _ s t)
+  pub past_channels-determined : Determined 𝓤 {T = past_channels.ended} (past_channels.clauses 𝓤 H A mem run) (λ κs r e. r)
+  past_channels-determined = determined-once 𝓤 {T = past_channels.ended} (past_channels.clauses 𝓤 H A mem run) _ _ (λ κs a g r e. id⊢ 𝓤 _) (λ κs a g r r′ e e′ s t. stands-once _ r r′ _ s t)

@@ -4,7 +4,7 @@ ghost use mathlib.Core.Bool.{true, _&&_};
 ghost use Prim.Native.Nat.{_+_, _≤_};
 ghost use lib.ListN.{length};
 ghost use Rattle.rules.specs.Bytes.{from};
-ghost use Rattle.rules.specs.Layout.{entry};
+ghost use Rattle.rules.specs.Layout.{entry, records};
 ghost use Rattle.rules.specs.Tables.{vcmHeadZeros, vcmHeadOf, channelZeros, signalOf, channelOf, channelFair, vcm};
 ghost use Rattle.fields.specs.Place.{Stands, Skims};
 ghost use Rattle.vcm.specs.Tail.{tailOf};
@@ -150,7 +150,7 @@ fn channel_fair(r: &[u8]) -> bool
 
 // The place behind the record at a place and, where the head says that they are included, behind its descriptors; or 8, 9, 10.
 // A channel record carries its number itself: it takes no index, and 0 stands for one.
-pub fn channel_step(b: &[u8], at: usize, included: u8) -> Skip
+fn channel_step(b: &[u8], at: usize, included: u8) -> Skip
     ensures { λ r. ⌜ Stands (now (b .entry)) r (entry (vcm included) 0 (from (now (b .entry)) at)) ⌝ }
 {
     if fields::short(b, at, SIZE) {
@@ -220,9 +220,9 @@ fn is_plain(b: &[u8], at: usize, included: u8) -> bool
 }
 
 // Over the records that are right and have no descriptors, as far as they go: the short way for what a plant mostly sends.
-pub fn skim(b: &[u8], start: usize, count: u8, included: u8) -> Reached
+fn skim(b: &[u8], start: usize, count: u8, included: u8) -> Reached
     requires { ⌜ start ≤ length (now b) ⌝ }
-    ensures { λ r. ⌜ Skims (vcm included) count 0 (now (b .entry)) start r ⌝ }
+    ensures { λ r. ⌜ Skims (vcm included) count 0 (now (b .entry)) start r × (r .index ≡ 0) ⌝ }
 {
     let tail = tail_of(included);
     let mut at = start;
@@ -235,4 +235,28 @@ pub fn skim(b: &[u8], start: usize, count: u8, included: u8) -> Reached
         left -= 1;
     }
     Reached { at, index: 0, left }
+}
+
+// The place behind so many records, the first of them at a place; or 8, 9, 10. The short way first, and from where that stops
+// record by record.
+pub fn past_channels(b: &[u8], start: usize, count: u8, included: u8) -> Skip
+    requires { ⌜ start ≤ length (now b) ⌝ }
+    ensures { λ r. ⌜ Stands (now (b .entry)) r (records (vcm included) count 0 (from (now (b .entry)) start)) ⌝ }
+{
+    let reached = skim(b, start, count, included);
+    let mut at = reached.at;
+    let mut left = reached.left;
+    while 0 < left {
+        let next = channel_step(b, at, included);
+        match next {
+            Skip::At(i) => {
+                at = i;
+                left -= 1;
+            }
+            Skip::Refused(n) => {
+                return Skip::Refused(n);
+            }
+        }
+    }
+    Skip::At(at)
 }

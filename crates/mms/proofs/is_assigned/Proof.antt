@@ -1,7 +1,7 @@
 -- Each test is a clause of the rule, or two.
 use Prim.Native.Nat.{_/_, _%_}
 use native.Mathlib.Omega.{arith}
-use mathlib.Core.Path.{sym, _∙_}
+use mathlib.Core.Path.{sym}
 use denote.Ref.{now}
 use borrow.Author.Needs.{needs}
 use borrow.Author.Tests.{eq-eqb, le-leb}

@@ -1,5 +1,4 @@
 -- Where the checks are passed the four tables are listed, and the lines are those of the listings; else there are none.
-use native.Mathlib.Omega.{arith}
 use mathlib.Core.Path.{refl, sym, _∙_}
 use denote.Ref.{now}
 use borrow.Author.Needs.{needs}

@@ -3,7 +3,6 @@ use denote.Ref.{now}
 use Rattle.rules.specs.Tuning.{plant}
 use Rattle.rules.specs.declared.Table.the-variants.{Mms}
 use Rattle.tuner.proofs.Laws.{searchable}
-use borrow.Author.Needs.{needs}
 use Rattle.tuner.proofs.search_mode.Statement.{statement}
 use Rattle.tuner.proofs.search_mode.Tie as tie
 

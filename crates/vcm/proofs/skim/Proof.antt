@@ -29,10 +29,10 @@ loop-again c =
     (s .within, turn (vcm (c .before .before .before .before .before .before .args .included)) _ _ _ _ s _ _ _ (c .before .before .loop-test .taken) refl (l .inv .1))
 
 returns : tie.Need-returns Inv-loop μ-loop
-returns c = let l = c .before .loop .inv in record { within = l .0; same = l .1 }
+returns c = let l = c .before .loop .inv in (record { within = l .0; same = l .1 }, refl)
 
 returns-2 : tie.Need-returns-2 Inv-loop μ-loop
-returns-2 c = let l = c .before .before .before .loop .inv in record { within = l .0; same = l .1 }
+returns-2 c = let l = c .before .before .before .loop .inv in (record { within = l .0; same = l .1 }, refl)
 
 pub skim-spec : {M : Type 1} → statement M
 skim-spec =

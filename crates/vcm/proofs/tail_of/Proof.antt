@@ -1,5 +1,4 @@
 -- One byte, or none.
-use borrow.Author.Needs.{needs}
 use borrow.Author.Tests.{eq-eqb, ne-eqb}
 use Rattle.vcm.specs.Tail.{tailOf}
 use Rattle.vcm.proofs.tail_of.Statement.{statement}

@@ -1,7 +1,5 @@
 -- No entry, or the frequency that the record of the entry says.
 use mathlib.Core.Path.{sym, _∙_}
-use denote.Ref.{now}
-use lib.ListN.{getD}
 use borrow.Author.Needs.{needs}
 use Rattle.rules.specs.Tables.{cds}
 use Rattle.rules.specs.declared.Table.the-variants.{Cds}

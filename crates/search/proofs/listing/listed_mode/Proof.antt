@@ -1,7 +1,5 @@
 -- No entry, or the record of the entry.
 use mathlib.Core.Path.{sym, _∙_}
-use denote.Ref.{now}
-use lib.ListN.{getD}
 use borrow.Author.Needs.{needs}
 use Rattle.rules.specs.Tables.{mms}
 use Rattle.rules.specs.declared.Table.the-variants.{Mms}

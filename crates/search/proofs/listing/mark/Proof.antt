@@ -1,8 +1,7 @@
 -- After each turn the numbers below are marked.
 use Prim.Native.Nat.{_-_, _≤_}
 use native.Mathlib.Omega.{arith}
-use mathlib.Core.Path.{_≡_, subst}
-use lib.ListN.{length}
+use mathlib.Core.Path.{_≡_}
 use borrow.Author.Needs.{needs}
 use Rattle.search.specs.Listing.{Marked}
 use Rattle.search.proofs.Marks.{none-marked, more-marked}
