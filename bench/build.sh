@@ -20,10 +20,10 @@ link_objects_x86() {
 # plain_objects: compiles the plain C; the objects' names are then in the array plain_c
 plain_objects() {
     local name
-    python3 bench/plain/crc_tables.py >target/c/crc_tables.h
+    python3 bench/plain/crc_tables.py >target/c/crc_tables.h || return
     plain_c=()
     for name in section receiver tuner stream lineup; do
-        compile_x86 "target/c/plain_$name.o" "bench/plain/$name.c"
+        compile_x86 "target/c/plain_$name.o" "bench/plain/$name.c" || return
         plain_c+=("target/c/plain_$name.o")
     done
 }

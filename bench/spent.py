@@ -66,7 +66,7 @@ def main():
     words = sys.argv[1:]
     try:
         nowhere = os.open(os.devnull, os.O_WRONLY)
-        print('%.4f\t%d' % (min(seconds(words, nowhere) for _ in range(RUNS)), memory(words)))
+        print('%.6f\t%d' % (min(seconds(words, nowhere) for _ in range(RUNS)), memory(words)))
     except OSError as error:
         sys.exit('spent.py: %s' % error.strerror)
 

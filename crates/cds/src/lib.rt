@@ -1,4 +1,4 @@
-// The carrier table, CDS: its record. b is a section without its CRC.
+// The carrier table, CDS: its record, and the way over its records. b is a section without its CRC.
 ghost use mathlib.Core.Path.{_≡_};
 ghost use mathlib.Core.Bool.{true};
 ghost use Prim.Native.Nat.{_+_, _≤_, _<_};

@@ -1,4 +1,4 @@
-// The defined channels map, DCM: its head and its range byte. b is a section without its CRC.
+// The defined channels map, DCM: its head, its range byte, and the way over its ranges. b is a section without its CRC.
 ghost use mathlib.Core.Path.{_≡_};
 ghost use mathlib.Core.Bool.{true};
 ghost use Prim.Native.Nat.{_+_, _≤_, _<_};
@@ -112,8 +112,8 @@ fn skim(b: &[u8], start: usize, first: u16, count: u8) -> Reached
     }
 }
 
-// The place behind so many records, the first of them at a place and an index; or 8, 9, 10. The short way first, and from where that stops
-// record by record.
+// The place behind so many range bytes, the first of them at a place and with its first channel; or 8, 10. The short way first, and
+// from where that stops byte by byte.
 pub fn past_ranges(b: &[u8], start: usize, first: u16, count: u8) -> Skip
     requires { ⌜ start ≤ length (now b) ⌝ }
     ensures { λ r. ⌜ Stands (now (b .entry)) r (records dcm count first (from (now (b .entry)) start)) ⌝ }

@@ -1,4 +1,4 @@
-// The modulation table, MMS: its record. b is a section without its CRC.
+// The modulation table, MMS: its record, and the way over its records. b is a section without its CRC.
 ghost use mathlib.Core.Path.{_≡_};
 ghost use mathlib.Core.Bool.{true, _&&_};
 ghost use Prim.Native.Nat.{_+_, _≤_};

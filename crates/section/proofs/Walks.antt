@@ -1,4 +1,5 @@
--- What the layouts of the tables have in common, and where the records of each structure stand.
+-- The records of each kind: those of another name for the same kind, that a channel record takes no index, and where the records of each
+-- structure stand.
 use Prim.Native.Nat.{ℕ, zero, suc, _+_, _≤_}
 use native.Mathlib.Omega.{arith}
 use mathlib.Core.Path.{_≡_, refl, sym, ap, subst, _∙_}

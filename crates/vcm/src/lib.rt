@@ -1,4 +1,4 @@
-// The virtual channel map, VCM: its head and its channel record. b is a section without its CRC.
+// The virtual channel map, VCM: its head, its channel record, and the way over its records. b is a section without its CRC.
 ghost use mathlib.Core.Path.{_≡_};
 ghost use mathlib.Core.Bool.{true, _&&_};
 ghost use Prim.Native.Nat.{_+_, _≤_};

@@ -1,5 +1,5 @@
 -- What the whole walk leaves is what the walk over the records that are still to come leaves, at the index reached.
-use Prim.Native.Nat.{_+_, _≤_, _<_}
+use Prim.Native.Nat.{_≤_, _<_}
 use native.Mathlib.Omega.{arith}
 use mathlib.Core.Path.{_≡_, sym, _∙_}
 use lib.ListN.{length, take}
