@@ -142,7 +142,7 @@ module _ (b : List ℕ) (at : ℕ) (d : Bool) where
 
 -- ---- records of every layout
 
-left-giving : {A B : Type 0} (f : A → B) (g : Got A) → leftOf (giving f g) ≡ leftOf g
+pub left-giving : {A B : Type 0} (f : A → B) (g : Got A) → leftOf (giving f g) ≡ leftOf g
 unfolding leftOf giving
 left-giving f (refused n) = refl
 left-giving f (got a rest) = refl

@@ -18,6 +18,7 @@ use Rattle.rules.specs.declared.VcmHead.{VcmHead}
 use Rattle.rules.specs.declared.DcmHead.{DcmHead}
 use Rattle.rules.proofs.Taken.{giving-got, head-got, records-count}
 use Rattle.rules.proofs.Places.{from-from, from-length}
+use Rattle.fields.proofs.Laws.{left-giving}
 use Rattle.fields.specs.Place.{leftOf, Stands}
 use Rattle.fields.specs.declared.Skip.{Skip}
 use Rattle.section.specs.Kinds.{RecordOf, layoutOf, headed, outlineOf}
@@ -44,11 +45,6 @@ same-left false y z d a b rest = refl
 same-entry : (included i j : ℕ) (bs : List ℕ) → leftOf (entry (vcm included) i bs) ≡ leftOf (entry (vcm included) j bs)
 unfolding entry bare vcm channelFair
 same-entry included i j bs = same-left _ _ _ _ (numbered (vcm included) i bs) (numbered (vcm included) j bs) (from bs 9)
-
-left-giving : {A B : Type 0} (f : A → B) (g : Got A) → leftOf (giving f g) ≡ leftOf g
-unfolding leftOf giving
-left-giving f (refused n) = refl
-left-giving f (got a rest) = refl
 
 -- nor in so many of them
 same-records : (included n i j : ℕ) (bs : List ℕ) → leftOf (records (vcm included) n i bs) ≡ leftOf (records (vcm included) n j bs)
