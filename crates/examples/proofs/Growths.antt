@@ -1,32 +1,29 @@
 -- Growth is no empty word: of each table a section and one that it may grow into, with descriptors put into its closing list and, where
 -- its records have lists, into those; a longer revision descriptor and other reserved bits; in one, other bodies of descriptors that the box
--- doesn't know; and the example plant, grown whole. By computation, but for `grown-digital`, which is condition 3 applied to it.
+-- doesn't know; and the example plant, grown whole. By computation.
 use Prim.Native.Nat.{ℕ}
 use Prim.Native.String.{String}
 use native.Mathlib.Omega.{arith}
-use mathlib.Core.Path.{_≡_, refl, sym, _∙_}
-use mathlib.Core.List.{List, [], _∷_, _++_, flatten}
-use Rattle.rules.specs.Bytes.{byte, from}
+use mathlib.Core.Path.{_≡_, refl}
+use mathlib.Core.List.{List, [], _∷_}
 use Rattle.rules.specs.Descriptors.{Descriptor}
-use Rattle.rules.specs.Section.{lengthOf, Structure, modes, channels, ranges, Content}
+use Rattle.rules.specs.Section.{Structure, modes, channels, ranges, Content}
 use Rattle.rules.specs.Growth.{FullerList, empty, stays, added, other, revised, Piece, end, next, Grown, GrownRun, grown}
 use Rattle.rules.specs.Growth
-use Rattle.rules.specs.Lineup.{text, cut, sectionsOf, freshBox, printedOf, lineup}
 use Rattle.rules.specs.declared.Table.{Table}
 use Rattle.rules.specs.declared.Table.the-variants.{Mms, Vcm, Dcm}
 use Rattle.rules.specs.declared.Signal.the-variants.{Digital}
 use Rattle.rules.proofs.Hex.{hex}
 use Rattle.rules.proofs.Computed.{computed}
-use Rattle.rules.proofs.Taken.{differ}
+use Rattle.rules.proofs.Truths.{differ}
 use Rattle.rules.proofs.Examples.{c1Content, c7Ranges, c12Mode}
-use Rattle.rules.proofs.SameRuns.{grown-printed}
-use Rattle.examples.proofs.Printed.{examplePlant, printed}
+use Rattle.examples.proofs.Plants.{examplePlant}
 
 -- a descriptor, and a record with its list
-abbrev d : (tag : ℕ) → (body : String) → Descriptor
+abbrev pub d : (tag : ℕ) → (body : String) → Descriptor
 d tag body = record { tag = tag; body = hex body }
 
-abbrev p : (own : String) → List Descriptor → Piece
+abbrev pub p : (own : String) → List Descriptor → Piece
 p own list = record { own = hex own; list = list }
 
 -- what a section of version 5, 0 of 0, for map 0 reads as
@@ -40,10 +37,10 @@ c9Channels included =
     channels (record { included = included; splice = 0; time = 0; count = 1 })
     (record { index = 0; what = record { number = 3; application = 0; path = 0; kind = 0; source = 0x1234; carrier = 2; signal = Digital 3 1 } } ∷ [])
 
-abbrev carriersPlain : List ℕ
+abbrev pub carriersPlain : List ℕ
 carriersPlain = hex "C2 30 13 00 01 01 01 02 80 30 81 C8 00 93 03 E5 00 00 74 9E FB E2"
 
-abbrev carriersGrown : List ℕ
+abbrev pub carriersGrown : List ℕ
 carriersGrown = hex "C2 00 20 00 01 01 01 02 80 30 81 C8 02 93 00 80 01 AA 81 00 93 05 05 00 00 AA BB C0 02 01 02 7D BB 44 30"
 
 abbrev modesPlain : List ℕ
@@ -284,23 +281,8 @@ included-grow =
     }
 
 -- the example plant, grown
-abbrev grownPlant : List (List ℕ)
+abbrev pub grownPlant : List (List ℕ)
 grownPlant = carriersGrown ∷ modesGrown ∷ rangesGrown ∷ channelsGrown ∷ []
 
 pub plant-grows : GrownRun examplePlant grownPlant
 plant-grows = grown carriers-grow (grown modes-grow (grown ranges-grow (grown channels-grow Growth.GrownRun.end)))
-
--- so that `lineup` prints the paper's digital line of the grown plant too: nothing of it is computed again but where its sections end
-example-input : lineup (hex "00 00" ++ flatten examplePlant) ≡ printedOf (freshBox 0) examplePlant
-unfolding lineup sectionsOf cut lengthOf byte from flatten hex
-example-input = refl
-
-grown-input : lineup (hex "00 00" ++ flatten grownPlant) ≡ printedOf (freshBox 0) grownPlant
-unfolding lineup sectionsOf cut lengthOf byte from flatten hex
-grown-input = refl
-
-pub grown-digital :
-    lineup (hex "00 00" ++ flatten grownPlant)
-    ≡ text "lineup=1\nmap=0\nsections=4\nrefused=0\ncds=5\nmms=5\nvcm=5\ndcm=5\nchannels=1\n"
-    ++ text "channel=3 kind=digital hidden=0 path=0 khz=63000 program=3 system=2 inner=15 split=0 format=8 symbols=5056941\n"
-grown-digital = grown-input ∙ grown-printed (freshBox 0) plant-grows ∙ sym example-input ∙ printed .digital

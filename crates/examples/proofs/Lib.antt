@@ -1,2 +1,20 @@
-pub mod Printed
-pub mod Growths
+-- What is computed from the rules: the facts that hold every clause of document 01 on both sides of its border (tests/rules tries every small
+-- change of the rules against them), the outputs that the paper prints, and growth.
+
+-- ---- the clauses, floor by floor
+pub mod SectionFields  -- what a section says, field by field
+pub mod SectionRefusals  -- refusals 3 to 11, what the reader answers, the descriptor question
+pub mod HoldingClauses  -- holding and going live; refusals 1, 2, 12, 13
+pub mod TuningClauses  -- from number to tuner; refusals 16 to 21
+pub mod LiveBoxes  -- the same through `tune` of live boxes; 1, 2, 14, 15, 16 in their order
+pub mod PrintClauses  -- text, lines, the cutting of an input
+pub mod SaidClauses  -- the paper's number, word and values for each case of an answer
+-- ---- whole outputs
+pub mod Printed  -- the two that the paper prints, and the first and the last channel
+-- ---- growth
+pub mod Growths  -- what is growth
+pub mod GrowthLimits  -- what is not
+pub mod GrownPlant  -- the paper's line of a grown plant
+-- ---- what these share
+pub mod Plants  -- sections
+pub mod Sweeps  -- a clause tried on every value

@@ -3,6 +3,7 @@
 ghost use mathlib.Core.Path.{_≡_};
 ghost use lib.ListN.{length};
 ghost use Rattle.rules.specs.Holding.{fresh, with, gatheredAt, takesIn, offered, storeAfter};
+ghost use Rattle.rules.specs.Said.{answerSaid, offerSaid};
 ghost use Rattle.receiver.specs.Taking.{answered, Admitted};
 use rules::Answer;
 use rules::GatheredVersion;
@@ -137,6 +138,7 @@ fn hold(state: State, store: &mut [u8], section: &[u8], head: SectionHead) -> Of
 pub fn offer(state: State, store: &mut [u8], section: &[u8]) -> Offered
     ensures { λ x. ⌜ x ≡ offered state (length (now (store .entry))) (now (section .entry)) ⌝ }
     ensures { λ _. ⌜ now (store .exit) ≡ storeAfter state (now (store .entry)) (now (section .entry)) ⌝ }
+    ensures { λ x. ⌜ answerSaid (x .answer) ≡ offerSaid state (length (now (store .entry))) (now (section .entry)) ⌝ }
 {
     if store.len() < state::STORE {
         return Offered {

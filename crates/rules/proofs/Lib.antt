@@ -15,6 +15,7 @@ pub mod InParts  -- what a section that reads right says, piece by piece
 pub mod Asking  -- the descriptor question
 pub mod Right  -- what a section that reads right has passed and is made of
 pub mod Taken  -- taking apart what was got
+pub mod Truths  -- tests that hold or do not
 pub mod Closing  -- the closing list
 pub mod Places  -- where in a section its parts stand
 pub mod Numbers  -- which numbers a refusal can have
@@ -48,4 +49,5 @@ pub mod GrownAsking  -- the descriptor question under growth
 pub mod Encoded  -- descriptors and records as bytes
 -- ---- the input of the line-up, and what a promise decides
 pub mod Pieces  -- an input read in pieces
+pub mod Told  -- an answer in the paper's terms
 pub mod Determined  -- two outcomes that a promise allows are equal

@@ -11,29 +11,7 @@ use Rattle.rules.specs.Bytes.{Got, refused, got, unless, andThen, giving
 use Rattle.rules.specs.Descriptors.{counted}
 use Rattle.rules.specs.Layout.{Layout, Numbered, numbered, bare, entry, after, records, head}
 use Rattle.rules.specs.Section.{given}
-
-pub differ : true ≡ false → ⊥
-differ e = let z : _≡_ {A = ℕ} 0 1 = cc in omega arith
-
-pub not-so : (b : Bool) → (b ≡ true → ⊥) → b ≡ false
-not-so true ne = absurd (ne refl)
-not-so false ne = refl
-
-pub both-left : (a b : Bool) → (a && b) ≡ true → a ≡ true
-both-left true b e = refl
-both-left false b e = e
-
-pub both-right : (a b : Bool) → (a && b) ≡ true → b ≡ true
-both-right true b e = e
-both-right false b e = absurd (differ (sym e))
-
-pub neither-left : (a b : Bool) → (a || b) ≡ false → a ≡ false
-neither-left true b e = e
-neither-left false b e = refl
-
-pub neither-right : (a b : Bool) → (a || b) ≡ false → b ≡ false
-neither-right true b e = absurd (differ e)
-neither-right false b e = e
+pub use Rattle.rules.proofs.Truths.{differ, not-so, both-left, both-right, neither-left, neither-right}
 
 pub unless-got : {A : Type 0} (t : Bool) (n : ℕ) (g : Got A) (a : A) (rest : List ℕ) → unless t n g ≡ got a rest → (t ≡ true) × (g ≡ got a rest)
 unfolding unless

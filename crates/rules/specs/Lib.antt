@@ -7,6 +7,7 @@ pub mod Section
 pub mod Holding
 pub mod Search
 pub mod Tuning
+pub mod Said
 pub mod Lineup
 pub mod Feeding
 pub mod Growth

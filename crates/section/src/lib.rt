@@ -5,6 +5,7 @@ ghost use Prim.Native.Nat.{_≤_};
 ghost use lib.Dec.{eqb};
 ghost use lib.ListN.{length};
 ghost use Rattle.rules.specs.Section.{fitting, contentOf, content, readSection, readAs, ask, partOf};
+ghost use Rattle.rules.specs.Said.{readSaid, askedSaid, sectionSaid, askSaid};
 ghost use Rattle.section.specs.Reads.{shown};
 use closing::Closed;
 use fields::Skip;
@@ -93,6 +94,7 @@ fn content_of(b: &[u8]) -> Read
 // What a section reads as: the number of its refusal, or its head. Refusals 3 to 6 by number, and then its content.
 pub fn read_section(section: &[u8]) -> Read
     ensures { λ r. ⌜ r ≡ readAs (now (section .entry)) (readSection (now (section .entry))) ⌝ }
+    ensures { λ r. ⌜ readSaid r ≡ sectionSaid (now (section .entry)) ⌝ }
 {
     if is_fitting(section) {
         if is_table_number(fields::byte(section, 0)) {
@@ -113,6 +115,7 @@ pub fn read_section(section: &[u8]) -> Read
 // there is one.
 pub fn ask_descriptor(section: &[u8], tag: u8) -> Asked
     ensures { λ r. ⌜ r ≡ ask tag (now (section .entry)) ⌝ }
+    ensures { λ r. ⌜ askedSaid r ≡ askSaid tag (now (section .entry)) ⌝ }
 {
     let read = read_section(section);
     match read {

@@ -7,7 +7,7 @@ use ghost.Atoms.{Atoms}
 use prog.Memory.{Memory}
 use prog.Routine.{Routine}
 use prog.Wp.{Heap}
-use Rattle.rules.proofs.Determined.{Determined, determined-by}
+use Rattle.rules.proofs.Determined.{Determined, determined-by, first-says}
 use Rattle.tuner.proofs.check
 use Rattle.tuner.proofs.look_up
 use Rattle.tuner.proofs.look_up_listed
@@ -24,4 +24,4 @@ module _ {M : Type 1} (𝓤 : URA M) (H : Heap 𝓤) (A : Atoms 𝓤) (mem : Mem
   look_up_listed-determined = determined-by 𝓤 {T = look_up_listed.ended} (look_up_listed.clauses 𝓤 H A mem run) _ _ (λ κs a g r e. id⊢ 𝓤 _)
 
   pub tune-determined : Determined 𝓤 {T = tune.ended} (tune.clauses 𝓤 H A mem run) (λ κs r e. r)
-  tune-determined = determined-by 𝓤 {T = tune.ended} (tune.clauses 𝓤 H A mem run) _ _ (λ κs a g r e. id⊢ 𝓤 _)
+  tune-determined = determined-by 𝓤 {T = tune.ended} (tune.clauses 𝓤 H A mem run) _ _ (λ κs a g r e. first-says 𝓤 (id⊢ 𝓤 _) (id⊢ 𝓤 _))

@@ -6,6 +6,7 @@ ghost use Prim.Native.Nat.{_<_};
 ghost use Rattle.rules.specs.Holding.{four, holdingOf};
 ghost use Rattle.rules.specs.Tuning.{allLive, isSection, placeReads, tableReads, allRead, Plant, plant, inReach, tuneSignal, tuneKhz, tuneCarrier, tuneChannel};
 ghost use Rattle.rules.specs.Tuning as rule;
+ghost use Rattle.rules.specs.Said.{tunedSaid, tuneSaid};
 ghost use Rattle.rules.specs.declared.Signal.the-variants as signal;
 ghost use Rattle.rules.specs.declared.Table.the-variants as table;
 ghost use Rattle.tuner.specs.Checks.{checks, Few};
@@ -318,6 +319,7 @@ pub fn look_up_listed(
 // What a channel is tuned to: the checks, and where they pass the look-up. 14 comes behind 1 and 2 and before 15 and 16.
 pub fn tune(state: State, store: &[u8], channel: u16) -> Tuned
     ensures { λ x. ⌜ x ≡ rule.tune state (now (store .entry)) channel ⌝ }
+    ensures { λ x. ⌜ tunedSaid x ≡ tuneSaid state (now (store .entry)) channel ⌝ }
 {
     let refusal = check(state, store);
     if refusal == 0 {

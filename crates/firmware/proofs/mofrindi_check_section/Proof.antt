@@ -8,11 +8,11 @@ use Rattle.firmware.proofs.mofrindi_check_section.Tie as tie
 
 returns : tie.Need-returns
 unfolding check
-returns c = refused-check _ _ _ (sym (c .before .read .given .1) ∙ c .before .before .before .read-section .ensures)
+returns c = refused-check _ _ _ (sym (c .before .read .given .1) ∙ c .before .before .before .read-section .ensures .0)
 
 returns-2 : tie.Need-returns-2
 unfolding check
-returns-2 c = right-check _ _ _ (sym (c .enum-told .given .1) ∙ c .before .before .read-section .ensures)
+returns-2 c = right-check _ _ _ (sym (c .enum-told .given .1) ∙ c .before .before .read-section .ensures .0)
 
 pub mofrindi-check-section-spec : {M : Type 1} → statement M
 mofrindi-check-section-spec =

@@ -7,6 +7,7 @@ use denote.Ref.{now}
 use borrow.Author.Needs.{needs}
 use borrow.Author.Tests.{not-true, not-false}
 use Rattle.rules.specs.Holding.{limitOf, storeSize}
+use Rattle.rules.proofs.Told.{offer-told}
 use Rattle.state.proofs.Laws.{all-places}
 use Rattle.receiver.proofs.Laws.{admitted, short-store, not-formed, refused}
 use Rattle.receiver.proofs.offer.Statement.{statement}
@@ -17,7 +18,7 @@ returns c =
     let a = c .before .before .before .args in
     let short : length (now (a .store)) < storeSize (limitOf (a .state)) = rw (all-places (a .state)) (c .if1 .taken) in
     let r = short-store (a .state) (now (a .store)) (now (a .section)) short in
-    (r .answer, r .bytes)
+    (r .answer, (r .bytes, offer-told (a .state) _ _ (r .answer)))
 
 returns-2 : tie.Need-returns-2
 returns-2 c =
@@ -27,7 +28,7 @@ returns-2 c =
     let r =
     not-formed (a .state) (now (a .store)) (now (a .section)) roomy
     (sym (f .well-formed .ensures) ∙ not-true (f .well-formed .result) (c .if2 .taken)) in
-    (r .answer, r .bytes)
+    (r .answer, (r .bytes, offer-told (a .state) _ _ (r .answer)))
 
 hold-requires : tie.Need-hold-requires
 hold-requires c κs =
@@ -37,7 +38,7 @@ hold-requires c κs =
     let a = f .before .before .before .before .args in
     let roomy : storeSize (limitOf (a .state)) ≤ length (now (a .store)) = rw (all-places (a .state)) (f .before .if1 .left) in
     admitted (a .state) (now (a .store)) (now (a .section)) (t .read2 .given .0 .0) roomy
-    (sym (f .well-formed .ensures) ∙ not-false (f .well-formed .result) (e .before .if2 .left)) (sym (t .read2 .given .1) ∙ e .read-section .ensures)
+    (sym (f .well-formed .ensures) ∙ not-false (f .well-formed .result) (e .before .if2 .left)) (sym (t .read2 .given .1) ∙ e .read-section .ensures .0)
 
 returns-3 : tie.Need-returns-3
 returns-3 c =
@@ -48,8 +49,11 @@ returns-3 c =
     let r =
     refused (a .state) (now (a .store)) (now (a .section)) roomy
     (sym (f .well-formed .ensures) ∙ not-false (f .well-formed .result) (e .before .if2 .left))
-    (c .before .read .given .0 .0) (sym (c .before .read .given .1) ∙ e .read-section .ensures) in
-    (r .answer, r .bytes)
+    (c .before .read .given .0 .0) (sym (c .before .read .given .1) ∙ e .read-section .ensures .0) in
+    (r .answer, (r .bytes, offer-told (a .state) _ _ (r .answer)))
+
+returns-4 : tie.Need-returns-4
+returns-4 c = let h = c .before .before .hold .ensures in (h .0, (h .1, offer-told _ _ _ (h .0)))
 
 pub offer-spec : {M : Type 1} → statement M
 offer-spec =
@@ -64,4 +68,4 @@ offer-spec =
     hold-requires
     returns-3
     (λ c. search needs)
-    (λ c. search needs))
+    returns-4)

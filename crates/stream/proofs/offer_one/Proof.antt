@@ -14,7 +14,7 @@ returns c =
     let n = c .before .before .refusals-of in
     let o = c .before .before .before .before .before .before .offer in
     let a = c .before .before .before .before .before .before .before .before .before .before .args in (
-      offered-one (a .t) (now (a .store)) (now (a .section)) (o .result) _ (n .result) (o .ensures .0) (o .ensures .1) (n .ensures .0),
+      offered-one (a .t) (now (a .store)) (now (a .section)) (o .result) _ (n .result) (o .ensures .0) (o .ensures .1 .0) (n .ensures .0),
       record { sections = omega arith; refused = omega (arith, n .ensures .1) },
     )
 

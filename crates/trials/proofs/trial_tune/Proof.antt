@@ -4,7 +4,7 @@ use Rattle.trials.proofs.trial_tune.Statement.{statement}
 use Rattle.trials.proofs.trial_tune.Tie as tie
 
 returns : tie.Need-returns
-returns c = simp (c .tuned-part .ensures, c .before .tune .ensures, c .before .before .state-from .ensures)
+returns c = simp (c .tuned-part .ensures, c .before .tune .ensures .0, c .before .before .state-from .ensures)
 
 pub trial-tune-spec : {M : Type 1} → statement M
 trial-tune-spec =

@@ -1,0 +1,97 @@
+-- What growth is not: of each thing that the relation asks for, two that differ in it alone are not in it. By computation. (What is in it: Growths.antt. That
+-- nothing in it changes an answer is condition 3 itself.)
+use Prim.Native.Nat.{ℕ, suc}
+use native.Mathlib.Omega.{arith}
+use mathlib.Core.Path.{_≡_, refl, sym, ap}
+use mathlib.Core.List.{List, [], _∷_}
+use lib.ListN.{length}
+use Rattle.rules.specs.Bytes.{byte}
+use Rattle.rules.specs.Descriptors.{Descriptor}
+use Rattle.rules.specs.Section.{Content, wrong, right}
+use Rattle.rules.specs.Growth.{GrownRevision, GrownClosing, empty, Piece, Parts, Shaped, FullerPieces, end, GrownParts, Grown}
+use Rattle.rules.specs.declared.Table.the-variants.{Cds, Vcm, Dcm}
+use Rattle.rules.proofs.Hex.{hex}
+use Rattle.rules.proofs.Truths.{differ, unlike, not-most}
+use Rattle.rules.proofs.Computed.{computed}
+use Rattle.examples.proofs.Growths.{d, p, carriersPlain, carriersGrown}
+
+-- parts of a section: byte 1, what stands in front of the records, the records
+abbrev parts : (number flags : ℕ) → (front : List ℕ) → List Piece → Parts
+parts number flags front pieces =
+    record { number = number; flags = flags; low = 0x10; front = front; pieces = pieces; closing = d 0x93 "E5 00 00" ∷ [] }
+
+abbrev record1 : List Piece
+record1 = p "02 80 30 81 C8" [] ∷ []
+
+abbrev channel1 : List Descriptor → List Piece
+channel1 list = p "00 03 00 12 34 02 00 03 01" list ∷ []
+
+pub record GrowthLimits : Type 0 where
+  -- ---- the revision descriptor: it was one and is one, of 3 bytes or more, with the same version, number and last
+  pub grows : GrownRevision (d 0x93 "E5 01 03") (d 0x93 "05 01 03 AA")
+  pub was : GrownRevision (d 0x80 "E5 01 03") (d 0x93 "E5 01 03") → ⊥
+  pub is : GrownRevision (d 0x93 "E5 01 03") (d 0x80 "E5 01 03") → ⊥
+  pub long : GrownRevision (d 0x93 "E5 01") (d 0x93 "E5 01 00") → ⊥
+  pub longer : GrownRevision (d 0x93 "E5 01 00") (d 0x93 "E5 01") → ⊥
+  pub version : GrownRevision (d 0x93 "E5 01 03") (d 0x93 "F5 01 03") → ⊥
+  pub number : GrownRevision (d 0x93 "E5 01 03") (d 0x93 "E5 02 03") → ⊥
+  pub last : GrownRevision (d 0x93 "E5 01 03") (d 0x93 "E5 01 02") → ⊥
+  -- ---- the parts of a section: four bytes of header and the head in front, records of their size, as many as the count says, lists only behind records that have them
+  pub shaped : Shaped Vcm (parts 0xC4 0x30 (hex "00 00 00 00 20 00 00 00 00 00 01") (channel1 (d 0x80 "" ∷ [])))
+  pub front-short : Shaped Cds (parts 0xC2 0x30 (hex "00 01 01") record1) → ⊥
+  pub front-long : Shaped Cds (parts 0xC2 0x30 (hex "00 01 01 01 00") record1) → ⊥
+  pub head-short : Shaped Dcm (parts 0xC4 0x30 (hex "00 01 00 00 00 02") []) → ⊥
+  pub own-short : Shaped Cds (parts 0xC2 0x30 (hex "00 01 01 01") (p "02 80 30 81" [] ∷ [])) → ⊥
+  pub fewer : Shaped Cds (parts 0xC2 0x30 (hex "00 01 02 01") record1) → ⊥
+  pub no-list : Shaped Vcm (parts 0xC4 0x30 (hex "00 00 00 00 00 00 00 00 00 00 01") (channel1 (d 0x80 "" ∷ []))) → ⊥
+  -- ---- what stays: the table number, the zero bits of byte 1 and nothing else of it, what stands in front of the records
+  pub reserved : GrownParts (parts 0xC2 0x00 [] []) (parts 0xC2 0x3F [] [])
+  pub reserved-back : GrownParts (parts 0xC2 0x3F [] []) (parts 0xC2 0x00 [] [])
+  pub other-number : GrownParts (parts 0xC2 0x30 [] []) (parts 0xC4 0x30 [] []) → ⊥
+  pub zero-bit : GrownParts (parts 0xC2 0x00 [] []) (parts 0xC2 0x40 [] []) → ⊥
+  pub zero-bit-back : GrownParts (parts 0xC2 0x40 [] []) (parts 0xC2 0x00 [] []) → ⊥
+  pub other-front : GrownParts (parts 0xC2 0x30 (0 ∷ []) []) (parts 0xC2 0x30 (1 ∷ []) []) → ⊥
+  pub other-records : GrownParts (parts 0xC2 0x30 [] record1) (parts 0xC2 0x30 [] []) → ⊥
+  -- ---- the first section reads right; the grown one has a right L and a right CRC
+  pub not-right : (g : List ℕ) → Grown (hex "C2 30") g → ⊥
+  pub not-fitting : Grown carriersPlain (hex "C2 30") → ⊥
+  pub not-sealed : Grown carriersPlain (hex "C2 00 20 00 01 01 01 02 80 30 81 C8 02 93 00 80 01 AA 81 00 93 05 05 00 00 AA BB C0 02 01 02 7D BB 44 31") → ⊥
+
+-- records are put nowhere and taken nowhere
+fuller-count : {ps qs : List Piece} → FullerPieces ps qs → length ps ≡ length qs
+fuller-count end = refl
+fuller-count (FullerPieces.next own list more) = ap suc (fuller-count more)
+
+wrong-right : {n : ℕ} {c : Content} → wrong n ≡ right c → ⊥
+wrong-right e = let z : _≡_ {A = ℕ} 0 1 = cc in omega arith
+
+pub growth-limits : GrowthLimits
+unfolding computed
+growth-limits =
+    record {
+      grows = record { was = refl; is = refl; long = omega arith; longer = omega arith; version = refl; number = refl; last = refl };
+      was = λ g. unlike refl (g .was);
+      is = λ g. unlike refl (g .is);
+      long = λ g. not-most refl (g .long);
+      longer = λ g. not-most refl (g .longer);
+      version = λ g. unlike refl (g .version);
+      number = λ g. unlike refl (g .number);
+      last = λ g. unlike refl (g .last);
+      shaped = record { front = refl; sized = (refl, λ e. absurd (differ e), tt); count = refl };
+      front-short = λ s. unlike refl (s .front);
+      front-long = λ s. unlike refl (s .front);
+      head-short = λ s. unlike refl (s .front);
+      own-short = λ s. unlike refl (s .sized .0);
+      fewer = λ s. unlike refl (s .count);
+      no-list = λ s. unlike refl (ap length (s .sized .1 refl));
+      reserved = record { number = refl; zeros = refl; front = refl; pieces = end; closing = GrownClosing.stays _ empty };
+      reserved-back = record { number = refl; zeros = refl; front = refl; pieces = end; closing = GrownClosing.stays _ empty };
+      other-number = λ g. unlike refl (g .number);
+      zero-bit = λ g. unlike refl (g .zeros);
+      zero-bit-back = λ g. unlike refl (g .zeros);
+      other-front = λ g. unlike refl (ap (byte 0) (g .front));
+      other-records = λ g. unlike refl (fuller-count (g .pieces));
+      not-right = λ s g. wrong-right (g .reads);
+      not-fitting = λ g. differ (sym (g .fits));
+      not-sealed = λ g. unlike refl (g .crc);
+    }

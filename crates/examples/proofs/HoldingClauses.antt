@@ -1,0 +1,254 @@
+-- Document 01, "Holding and going live", and refusals 1, 2, 12 and 13: every clause on both sides of its border, computed.
+use Prim.Native.Nat.{ℕ, _*_}
+use mathlib.Core.Path.{_≡_, refl}
+use mathlib.Core.Bool.{true, false}
+use mathlib.Core.List.{List, [], _∷_, _++_, map}
+use lib.ListN.{length, take, replicate}
+use Rattle.rules.specs.Bytes.{from}
+use Rattle.rules.specs.Section.{carriers, Content, right, wrong}
+use Rattle.rules.specs.Holding.{placeOf, storeSize, sectionAt, put, holdingOf, with, liveAt, gatheredAt, noneLive, noneGathered, freshHolding, fresh, holds, allOf, liveFormed, gatheredFormed, holdingFormed, wellFormed, stepOf, offeredAs, offered, takesIn, storeAfter, Box, answerTo, boxAfter}
+use Rattle.rules.specs.declared.Table.{Table}
+use Rattle.rules.specs.declared.Table.the-variants.{Cds, Mms, Vcm, Dcm}
+use Rattle.rules.specs.declared.LiveVersion.{LiveVersion}
+use Rattle.rules.specs.declared.GatheredVersion.{GatheredVersion}
+use Rattle.rules.specs.declared.Holding.{Holding}
+use Rattle.rules.specs.declared.Revision.{Revision}
+use Rattle.rules.specs.declared.State.{State}
+use Rattle.rules.specs.declared.Answer.{Answer}
+use Rattle.rules.specs.declared.Answer.the-variants.{Refused, OtherMap, Repeat, Stored, Live}
+use Rattle.rules.proofs.Hex.{hex}
+use Rattle.examples.proofs.Sweeps.{swept, answered, sweep, counting, asNumber}
+use Rattle.rules.proofs.Computed.{computed}
+
+-- ---- states, by their fields
+
+abbrev pub live : (present version last : ℕ) → LiveVersion
+live present version last = record { present = present; version = version; last = last }
+
+abbrev pub gathered : (present version last held : ℕ) → GatheredVersion
+gathered present version last held = record { present = present; version = version; last = last; held = held }
+
+abbrev pub holding : LiveVersion → GatheredVersion → (half : ℕ) → Holding
+holding l g half = record { live = l; gathered = g; half = half }
+
+abbrev pub state : (cds mms vcm dcm : Holding) → State
+state cds mms vcm dcm = record { map = 0x0102; cds = cds; mms = mms; vcm = vcm; dcm = dcm }
+
+abbrev pub revised : (version number last : ℕ) → Revision
+revised version number last = record { version = version; number = number; last = last }
+
+-- version 6, 0 to 1, is live in half 0; version 5, 0 to 3, is being gathered, and 1 and 2 are held
+abbrev pub both : Holding
+both = holding (live 1 6 1) (gathered 1 5 3 0x06) 0
+
+-- holdings that differ, one for each table
+abbrev pub first : Holding
+first = holding (live 1 1 0) noneGathered 0
+
+abbrev pub second : Holding
+second = holding (live 1 2 1) (gathered 1 3 2 0x01) 1
+
+abbrev pub third : Holding
+third = holding noneLive (gathered 1 4 3 0x05) 1
+
+abbrev pub fourth : Holding
+fourth = holding noneLive noneGathered 0
+
+abbrev pub mixed : State
+mixed = state first second third fourth
+
+-- ---- the tests of refusal 2, as numbers
+
+abbrev pub formedLive : LiveVersion → ℕ
+formedLive l = asNumber (liveFormed 4 l)
+
+abbrev pub formedGathered : GatheredVersion → ℕ
+formedGathered g = asNumber (gatheredFormed 4 g)
+
+abbrev pub formed : Holding → ℕ
+formed h = asNumber (holdingFormed 4 h)
+
+-- what a table's eight places begin at, half 0 and then half 1
+abbrev pub placesOf : Table → List ℕ
+placesOf t =
+    placeOf 4 t 0 0 ∷ placeOf 4 t 0 1 ∷ placeOf 4 t 0 2 ∷ placeOf 4 t 0 3
+    ∷ placeOf 4 t 1 0 ∷ placeOf 4 t 1 1 ∷ placeOf 4 t 1 2 ∷ placeOf 4 t 1 3 ∷ []
+
+-- a section that reads right, for those who look at its table, map and revision alone
+abbrev pub said : Table → (map : ℕ) → Revision → Content
+said t map r = record { table = t; map = map; structure = carriers 1 []; closing = []; revision = r }
+
+-- a CDS section, 2 of 0 to 3 of version 5; a VCM with splice 1 and the latest activation time, 0 of 0 of version 5, for map 0x0102
+abbrev pub carriersTwo : List ℕ
+carriersTwo = hex "C2 30 0D 00 01 00 01 93 03 E5 02 03 09 6E 4B F4"
+
+abbrev pub channelsLate : List ℕ
+channelsLate = hex "C4 30 14 00 00 01 02 00 80 FF FF FF FF 00 93 03 E5 00 00 50 DB A8 9B"
+
+abbrev pub emptyStore : List ℕ
+emptyStore = replicate 32768 0
+
+pub record HoldingClauses : Type 0 where
+  -- ---- the store: 32 places of 1,024 bytes, one behind the other
+  pub places : placesOf Cds ++ placesOf Mms ++ placesOf Vcm ++ placesOf Dcm ≡ sweep 32 (λ k. k * 1024)
+  pub size : storeSize 4 ≡ 32768
+  -- the section in a place is its first 3 + L bytes, and never more than the place
+  pub place-section : sectionAt (hex "C2 30 09 C2 30 02 AA BB CC") 3 ≡ hex "C2 30 02 AA BB"
+  pub place-long : length (sectionAt (0xC2 ∷ 0x33 ∷ 0xFD ∷ replicate 2000 0) 0) ∷ length (sectionAt (0xC2 ∷ 0x33 ∷ 0xFE ∷ replicate 2000 0) 0) ∷ [] ≡ 1024 ∷ 1024 ∷ []
+  -- bytes put at the front of a place: what is in front of them and behind them stays
+  pub puts : put (hex "00 01 02 03 04 05") 2 (hex "AA BB CC") ≡ hex "00 01 AA BB CC 05"
+  -- ---- the state
+  pub starts : fresh 258 ≡ state (holding (live 0 0 0) (gathered 0 0 0 0) 1) (holding (live 0 0 0) (gathered 0 0 0 0) 1) (holding (live 0 0 0) (gathered 0 0 0 0) 1) (holding (live 0 0 0) (gathered 0 0 0 0) 1)
+  pub of-tables : map (holdingOf mixed) (Cds ∷ Mms ∷ Vcm ∷ Dcm ∷ []) ≡ first ∷ second ∷ third ∷ fourth ∷ []
+  pub with-table : map (λ t. with mixed t both) (Cds ∷ Mms ∷ Vcm ∷ Dcm ∷ []) ≡ state both second third fourth ∷ state first both third fourth ∷ state first second both fourth ∷ state first second third both ∷ []
+  -- the live half is the one set; gathering uses the other, whether anything is live or not
+  pub live-half : map (λ t. liveAt mixed t 1) (Cds ∷ Mms ∷ Vcm ∷ Dcm ∷ []) ≡ 1 * 1024 ∷ 13 * 1024 ∷ 21 * 1024 ∷ 25 * 1024 ∷ []
+  pub gathered-half : map (λ t. gatheredAt mixed t 1) (Cds ∷ Mms ∷ Vcm ∷ Dcm ∷ []) ≡ 5 * 1024 ∷ 9 * 1024 ∷ 17 * 1024 ∷ 29 * 1024 ∷ []
+  -- bit n is section n; all of 0 to last
+  pub held-bits : map (λ n. asNumber (holds 0x0A n)) (0 ∷ 1 ∷ 2 ∷ 3 ∷ 4 ∷ []) ≡ 0 ∷ 1 ∷ 0 ∷ 1 ∷ 0 ∷ []
+  pub all-held : map allOf (0 ∷ 1 ∷ 2 ∷ 3 ∷ 7 ∷ []) ≡ 1 ∷ 3 ∷ 7 ∷ 15 ∷ 255 ∷ []
+  -- ---- refusal 1, before 2: a store shorter than 32,768 bytes. Where 1 and 2 pass, no section at all is 3
+  pub one : map (λ size. offered (fresh 0) size [] .answer) (32767 ∷ 32768 ∷ 40000 ∷ []) ≡ Refused 1 ∷ Refused 3 ∷ Refused 3 ∷ []
+  pub one-first : offered (state first second third (holding noneLive noneGathered 2)) 32767 [] .answer ≡ Refused 1
+  -- ---- refusal 2, of what is live: version above 31, last above 3; present is 0 or 1; absent with a field not zero
+  pub two-version : answered (λ n. formedLive (live 1 n 0)) 1 256 ≡ counting 0 32
+  pub two-last : answered (λ n. formedLive (live 1 0 n)) 1 256 ≡ counting 0 4
+  pub two-present : answered (λ n. formedLive (live n 0 0)) 1 256 ≡ 0 ∷ 1 ∷ []
+  pub two-absent : (answered (λ n. formedLive (live 0 n 0)) 1 256 ≡ 0 ∷ []) × (answered (λ n. formedLive (live 0 0 n)) 1 256 ≡ 0 ∷ [])
+  -- the same of what is gathered, and of its numbers
+  pub two-gathered-version : answered (λ n. formedGathered (gathered 1 n 1 1)) 1 256 ≡ counting 0 32
+  pub two-gathered-last : answered (λ n. formedGathered (gathered 1 0 n 1)) 1 256 ≡ 1 ∷ 2 ∷ 3 ∷ []
+  pub two-gathered-present : answered (λ n. formedGathered (gathered n 0 0 0)) 1 256 ∷ answered (λ n. formedGathered (gathered n 0 1 1)) 1 256 ∷ [] ≡ (0 ∷ []) ∷ (1 ∷ []) ∷ []
+  pub two-gathered-absent :
+      (answered (λ n. formedGathered (gathered 0 n 0 0)) 1 256 ≡ 0 ∷ [])
+      × (answered (λ n. formedGathered (gathered 0 0 n 0)) 1 256 ≡ 0 ∷ [])
+      × (answered (λ n. formedGathered (gathered 0 0 0 n)) 1 256 ≡ 0 ∷ [])
+  -- gathered numbers empty, complete or beyond last, which is any bit above it
+  pub two-held : map (λ last. answered (λ n. formedGathered (gathered 1 5 last n)) 1 256) (0 ∷ 1 ∷ 2 ∷ 3 ∷ []) ≡ [] ∷ counting 1 2 ∷ counting 1 6 ∷ counting 1 14 ∷ []
+  -- half above 1, with anything live or not
+  pub two-half : (answered (λ n. formed (holding noneLive noneGathered n)) 1 256 ≡ 0 ∷ 1 ∷ []) × (answered (λ n. formed (holding (live 1 6 1) (gathered 1 5 3 6) n)) 1 256 ≡ 0 ∷ 1 ∷ [])
+  -- live and gathered version equal, whatever their last; where one of them is absent it has no version
+  pub two-same : answered (λ n. formed (holding (live 1 6 1) (gathered 1 n 3 6) 0)) 0 32 ≡ 6 ∷ []
+  pub two-same-absent : formed (holding noneLive (gathered 1 0 1 1) 0) ∷ formed (holding (live 1 0 0) noneGathered 0) ∷ [] ≡ 1 ∷ 1 ∷ []
+  -- what is live and what is gathered are both judged
+  pub two-both : formed both ∷ formed (holding (live 1 6 4) (gathered 1 5 3 6) 0) ∷ formed (holding (live 1 6 1) (gathered 1 5 4 6) 0) ∷ [] ≡ 1 ∷ 0 ∷ 0 ∷ []
+  -- each table is judged, and 2 comes before what the section is
+  pub two-tables :
+      map (λ s. offered s 32768 [] .answer)
+      (mixed
+      ∷ with mixed Cds (holding noneLive noneGathered 2)
+      ∷ with mixed Mms (holding noneLive noneGathered 2)
+      ∷ with mixed Vcm (holding noneLive noneGathered 2)
+      ∷ with mixed Dcm (holding noneLive noneGathered 2)
+      ∷ [])
+      ≡ Refused 3 ∷ Refused 2 ∷ Refused 2 ∷ Refused 2 ∷ Refused 2 ∷ []
+  -- ---- step 1: 0xC4 with another map number, and 0xC2 has none; the state stays
+  pub other-map : map (λ t. offeredAs mixed (right (said t 0x0103 (revised 7 0 1))) .answer) (Cds ∷ Mms ∷ Vcm ∷ Dcm ∷ []) ≡ Stored 1 ∷ Stored 1 ∷ OtherMap ∷ OtherMap ∷ []
+  pub other-map-state : map (λ t. offeredAs mixed (right (said t 0x0103 (revised 7 0 1))) .state) (Vcm ∷ Dcm ∷ []) ≡ mixed ∷ mixed ∷ []
+  pub other-map-before : offeredAs mixed (right (said Vcm 0x0002 (revised 7 0 4))) .answer ≡ OtherMap
+  -- of our map its table's holding moves, and no other
+  pub our-map : map (λ t. offeredAs mixed (right (said t 0x0102 (revised 7 0 0)))) (Cds ∷ Mms ∷ Vcm ∷ Dcm ∷ [])
+      ≡ record { answer = Live 7; state = with mixed Cds (holding (live 1 7 0) noneGathered 1) }
+      ∷ record { answer = Live 7; state = with mixed Mms (holding (live 1 7 0) noneGathered 0) }
+      ∷ record { answer = Live 7; state = with mixed Vcm (holding (live 1 7 0) noneGathered 0) }
+      ∷ record { answer = Live 7; state = with mixed Dcm (holding (live 1 7 0) noneGathered 1) }
+      ∷ []
+  -- each table has its own versions: version 2 is live in the MMS alone
+  pub own-versions : map (λ t. offeredAs mixed (right (said t 0x0102 (revised 2 0 1))) .answer) (Cds ∷ Mms ∷ Vcm ∷ Dcm ∷ []) ≡ Stored 1 ∷ Repeat ∷ Stored 1 ∷ Stored 1 ∷ []
+  pub refused-state : offeredAs mixed (wrong 9) ≡ record { answer = Refused 9; state = mixed }
+  -- ---- step 2: last above 3, whatever is live or gathered; step 3 comes behind it
+  pub twelve : map (λ last. stepOf 4 both (revised 6 0 last) .answer) (3 ∷ 4 ∷ 255 ∷ []) ≡ Refused 13 ∷ Refused 12 ∷ Refused 12 ∷ []
+  pub twelve-new : map (λ last. stepOf 4 both (revised 7 0 last) .answer) (3 ∷ 4 ∷ []) ≡ Stored 3 ∷ Refused 12 ∷ []
+  pub twelve-holding : stepOf 4 both (revised 7 0 4) .holding ≡ both
+  -- ---- step 3: the live version with another last, and the gathered one with another
+  pub thirteen : map (λ last. stepOf 4 both (revised 6 0 last) .answer) (0 ∷ 1 ∷ 2 ∷ 3 ∷ []) ≡ Refused 13 ∷ Repeat ∷ Refused 13 ∷ Refused 13 ∷ []
+  pub thirteen-gathered : map (λ last. stepOf 4 both (revised 5 0 last) .answer) (0 ∷ 1 ∷ 2 ∷ 3 ∷ []) ≡ Refused 13 ∷ Refused 13 ∷ Refused 13 ∷ Stored 1 ∷ []
+  pub thirteen-holding : map (λ v. stepOf 4 both (revised v 0 2) .holding) (5 ∷ 6 ∷ []) ≡ both ∷ both ∷ []
+  -- nothing live and nothing gathered is of no version, not of version 0
+  pub none-zero : stepOf 4 freshHolding (revised 0 0 1) ≡ record { answer = Stored 1; holding = holding noneLive (gathered 1 0 1 1) 1 }
+  pub none-zero-live : stepOf 4 freshHolding (revised 0 0 0) ≡ record { answer = Live 0; holding = holding (live 1 0 0) noneGathered 0 }
+  -- ---- step 4: the live version, or a number that is held already; what is gathered stays
+  pub repeats : map (λ n. stepOf 4 both (revised 5 n 3) .answer) (0 ∷ 1 ∷ 2 ∷ 3 ∷ []) ≡ Stored 1 ∷ Repeat ∷ Repeat ∷ Stored 1 ∷ []
+  pub repeats-live : map (λ n. stepOf 4 both (revised 6 n 1)) (0 ∷ 1 ∷ []) ≡ record { answer = Repeat; holding = both } ∷ record { answer = Repeat; holding = both } ∷ []
+  pub repeats-holding : stepOf 4 both (revised 5 1 3) .holding ≡ both
+  -- ---- step 5: n joins, or what was gathered is dropped; a version is another, whether it is bigger or smaller
+  pub joins : map (λ n. stepOf 4 both (revised 5 n 3) .holding) (0 ∷ 3 ∷ []) ≡ holding (live 1 6 1) (gathered 1 5 3 0x07) 0 ∷ holding (live 1 6 1) (gathered 1 5 3 0x0E) 0 ∷ []
+  pub begins : map (λ v. stepOf 4 both (revised v 2 3)) (4 ∷ 31 ∷ [])
+      ≡ record { answer = Stored 3; holding = holding (live 1 6 1) (gathered 1 4 3 0x04) 0 }
+      ∷ record { answer = Stored 3; holding = holding (live 1 6 1) (gathered 1 31 3 0x04) 0 }
+      ∷ []
+  -- ---- step 6: all of 0 to last are held: live, gathering is empty, halves change roles; else how many are still missing
+  pub lives : stepOf 4 (holding (live 1 6 1) (gathered 1 5 3 0x07) 0) (revised 5 3 3) ≡ record { answer = Live 5; holding = holding (live 1 5 3) noneGathered 1 }
+  pub lives-back : stepOf 4 (holding (live 1 6 1) (gathered 1 5 1 0x02) 1) (revised 5 0 1) ≡ record { answer = Live 5; holding = holding (live 1 5 1) noneGathered 0 }
+  pub missing : map (λ last. stepOf 4 both (revised 7 0 last) .answer) (0 ∷ 1 ∷ 2 ∷ 3 ∷ []) ≡ Live 7 ∷ Stored 1 ∷ Stored 2 ∷ Stored 3 ∷ []
+  -- ---- the store after an offer
+  pub takes : map (λ a. asNumber (takesIn a)) (Refused 5 ∷ OtherMap ∷ Repeat ∷ Stored 1 ∷ Live 5 ∷ []) ≡ 0 ∷ 0 ∷ 0 ∷ 1 ∷ 1 ∷ []
+  -- the section stands at the front of its place, section 2 of half 0, and every other byte is as it was
+  pub stores : storeAfter (fresh 0) emptyStore carriersTwo ≡ replicate 2048 0 ++ carriersTwo ++ replicate 30704 0
+  pub stores-refused : storeAfter (fresh 0) (hex "01 02 03") carriersTwo ≡ hex "01 02 03"
+  pub stores-answer : answerTo (record { state = fresh 0; store = emptyStore }) carriersTwo ≡ Stored 3
+  pub stores-state : boxAfter (record { state = fresh 0; store = emptyStore }) carriersTwo .state ≡ with (fresh 0) Cds (holding noneLive (gathered 1 5 3 0x04) 1)
+  -- "Splice and time are not acted on"
+  pub at-once : offered (fresh 0x0102) 32768 channelsLate .answer ≡ Live 5
+
+pub holding-clauses : HoldingClauses
+unfolding computed swept
+holding-clauses =
+    record {
+      places = refl;
+      size = refl;
+      place-section = refl;
+      place-long = refl;
+      puts = refl;
+      starts = refl;
+      of-tables = refl;
+      with-table = refl;
+      live-half = refl;
+      gathered-half = refl;
+      held-bits = refl;
+      all-held = refl;
+      one = refl;
+      one-first = refl;
+      two-version = refl;
+      two-last = refl;
+      two-present = refl;
+      two-absent = (refl, refl);
+      two-gathered-version = refl;
+      two-gathered-last = refl;
+      two-gathered-present = refl;
+      two-gathered-absent = (refl, refl, refl);
+      two-held = refl;
+      two-half = (refl, refl);
+      two-same = refl;
+      two-same-absent = refl;
+      two-both = refl;
+      two-tables = refl;
+      other-map = refl;
+      other-map-state = refl;
+      other-map-before = refl;
+      our-map = refl;
+      own-versions = refl;
+      refused-state = refl;
+      twelve = refl;
+      twelve-new = refl;
+      twelve-holding = refl;
+      thirteen = refl;
+      thirteen-gathered = refl;
+      thirteen-holding = refl;
+      none-zero = refl;
+      none-zero-live = refl;
+      repeats = refl;
+      repeats-live = refl;
+      repeats-holding = refl;
+      joins = refl;
+      begins = refl;
+      lives = refl;
+      lives-back = refl;
+      missing = refl;
+      takes = refl;
+      stores = refl;
+      stores-refused = refl;
+      stores-answer = refl;
+      stores-state = refl;
+      at-once = refl;
+    }

@@ -1,0 +1,56 @@
+-- "A definition gives this paper's number and values for each of the enum's cases": each case of the four enums, computed, with another value in every field.
+use mathlib.Core.Path.{_≡_, refl}
+use mathlib.Core.List.{[], _∷_, map}
+use lib.ListN.{replicate}
+use Rattle.rules.specs.Holding.{fresh}
+use Rattle.rules.specs.Said.{Said, readSaid, askedSaid, answerSaid, tunedSaid, sectionSaid, askSaid, offerSaid, tuneSaid}
+use Rattle.rules.specs.declared.Table.the-variants.{Cds, Mms, Vcm, Dcm}
+use Rattle.rules.specs.declared.Read.the-variants as Read
+use Rattle.rules.specs.declared.Asked.the-variants as Asked
+use Rattle.rules.specs.declared.Answer.the-variants as Answer
+use Rattle.rules.specs.declared.Tuned.the-variants as Tuned
+use Rattle.rules.proofs.Hex.{hex}
+use Rattle.rules.proofs.Computed.{computed}
+use Rattle.examples.proofs.Plants.{plantDcm}
+
+pub record SaidClauses : Type 0 where
+  pub refusals : readSaid (Read.Refused 3) ∷ askedSaid (Asked.Refused 4) ∷ answerSaid (Answer.Refused 5) ∷ tunedSaid (Tuned.Refused 6) ∷ []
+      ≡ map (λ n. record { refusal = n; word = "refusal"; values = [] }) (3 ∷ 4 ∷ 5 ∷ 6 ∷ [])
+  pub reads :
+      map (λ t. readSaid (Read.Right (record { table = t; map = 258; revision = record { version = 5; number = 1; last = 3 }; records = 7; count = 2; closing = 19 }))) (Cds ∷ Mms ∷ Vcm ∷ Dcm ∷ [])
+      ≡ map (λ t. record { refusal = 0; word = "reads right"; values = t ∷ 258 ∷ 5 ∷ 1 ∷ 3 ∷ 7 ∷ 2 ∷ 19 ∷ [] }) (0 ∷ 1 ∷ 2 ∷ 3 ∷ [])
+  pub asked : map askedSaid (Asked.Absent ∷ Asked.There 9 2 ∷ []) ≡ record { refusal = 0; word = "none"; values = [] } ∷ record { refusal = 0; word = "part"; values = 9 ∷ 2 ∷ [] } ∷ []
+  pub answers :
+      map answerSaid (Answer.OtherMap ∷ Answer.Repeat ∷ Answer.Stored 2 ∷ Answer.Live 31 ∷ [])
+      ≡ record { refusal = 0; word = "other map"; values = [] }
+      ∷ record { refusal = 0; word = "repeat"; values = [] }
+      ∷ record { refusal = 0; word = "stored"; values = 2 ∷ [] }
+      ∷ record { refusal = 0; word = "live"; values = 31 ∷ [] }
+      ∷ []
+  pub digital :
+      tunedSaid (Tuned.Digital 1 0 63000 3 (record { system = 2; inner = 15; split = 4; format = 8; symbols = 5056941 }))
+      ≡ record { refusal = 0; word = "digital"; values = 63000 ∷ 3 ∷ 2 ∷ 15 ∷ 4 ∷ 8 ∷ 5056941 ∷ 0 ∷ 1 ∷ [] }
+  pub analogue : tunedSaid (Tuned.Analogue 1 0 63000 4 5) ≡ record { refusal = 0; word = "analogue"; values = 63000 ∷ 4 ∷ 5 ∷ 0 ∷ 1 ∷ [] }
+  pub application : tunedSaid (Tuned.Application 1 0 7) ≡ record { refusal = 0; word = "application"; values = 7 ∷ 0 ∷ 1 ∷ [] }
+  -- the four questions, in these terms
+  pub to-section : sectionSaid plantDcm ≡ record { refusal = 0; word = "reads right"; values = 3 ∷ 258 ∷ 5 ∷ 0 ∷ 0 ∷ 10 ∷ 3 ∷ 13 ∷ [] }
+  pub to-descriptor : map (λ tag. askSaid tag plantDcm) (0x93 ∷ 0x94 ∷ []) ≡ record { refusal = 0; word = "part"; values = 15 ∷ 3 ∷ [] } ∷ record { refusal = 0; word = "none"; values = [] } ∷ []
+  pub to-offer : map (λ m. offerSaid (fresh m) 32768 plantDcm) (258 ∷ 259 ∷ []) ≡ record { refusal = 0; word = "live"; values = 5 ∷ [] } ∷ record { refusal = 0; word = "other map"; values = [] } ∷ []
+  pub to-channel : map (tuneSaid (fresh 0) (replicate 32768 0)) (3 ∷ 4096 ∷ []) ≡ record { refusal = 15; word = "refusal"; values = [] } ∷ record { refusal = 14; word = "refusal"; values = [] } ∷ []
+
+pub said-clauses : SaidClauses
+unfolding computed
+said-clauses =
+    record {
+      refusals = refl;
+      reads = refl;
+      asked = refl;
+      answers = refl;
+      digital = refl;
+      analogue = refl;
+      application = refl;
+      to-section = refl;
+      to-descriptor = refl;
+      to-offer = refl;
+      to-channel = refl;
+    }

@@ -1,0 +1,122 @@
+-- Document 01, "Bytes of a section": what a section says, field by field, computed. Every field has another value, or all its bits, so that a rule which
+-- takes other bits, or another field, says something else. Read behind checks 3 to 6, without the CRC; with it: SectionRefusals.antt.
+use Prim.Native.Nat.{ℕ}
+use mathlib.Core.Path.{_≡_, refl}
+use mathlib.Core.List.{List, [], _∷_, _++_, map}
+use Rattle.rules.specs.Descriptors.{Descriptor}
+use Rattle.rules.specs.Layout.{Numbered}
+use Rattle.rules.specs.Tables.{carriersZeros, carriersOf, carrierKhz, modeZeros, modeOf, vcmHeadZeros, vcmHeadOf, transportOf, channelZeros, channelOf, dcmHeadZeros, dcmHeadOf, rangeOf}
+use Rattle.rules.specs.Section.{carriers, modes, channels, ranges, right, content, withoutCrc, read}
+use Rattle.rules.specs.declared.Table.the-variants.{Cds, Mms, Vcm, Dcm}
+use Rattle.rules.specs.declared.Carriers.{Carriers}
+use Rattle.rules.specs.declared.Mode.{Mode}
+use Rattle.rules.specs.declared.Channel.{Channel}
+use Rattle.rules.specs.declared.Signal.the-variants.{Digital, Analogue}
+use Rattle.rules.specs.declared.Range.{Range}
+use Rattle.rules.specs.declared.Revision.{Revision}
+use Rattle.rules.proofs.Hex.{hex}
+use Rattle.examples.proofs.Plants.{plantCds, plantMms, plantVcm, plantDcm}
+use Rattle.examples.proofs.Sweeps.{swept, sweep, answered, asNumber, halves, holding}
+use Rattle.rules.proofs.Computed.{computed}
+
+-- what the plant with another value in every field says
+abbrev plantCarriers : List (Numbered Carriers)
+plantCarriers =
+    record { index = 3; what = record { count = 2; spacing = record { unit = 0; number = 600 }; first = record { unit = 1; number = 456 } } }
+    ∷ record { index = 5; what = record { count = 3; spacing = record { unit = 1; number = 48 }; first = record { unit = 0; number = 6000 } } }
+    ∷ []
+
+abbrev plantModes : List (Numbered Mode)
+plantModes =
+    record { index = 7; what = record { system = 4; inner = 11; split = 1; format = 24; symbols = 0x1234567 } }
+    ∷ record { index = 8; what = record { system = 0; inner = 0; split = 0; format = 0; symbols = 0xFFFFFFF } }
+    ∷ []
+
+abbrev plantChannels : List (Numbered Channel)
+plantChannels =
+    record { index = 0; what = record { number = 0x123; application = 0; path = 1; kind = 1; source = 0x0304; carrier = 4; signal = Digital 0x0102 7 } }
+    ∷ record { index = 0; what = record { number = 0x124; application = 1; path = 1; kind = 0; source = 0x0506; carrier = 0; signal = Digital 0 0 } }
+    ∷ record { index = 0; what = record { number = 0x125; application = 0; path = 0; kind = 0; source = 0x0708; carrier = 6; signal = Analogue 1 4 } }
+    ∷ []
+
+abbrev plantRanges : List (Numbered Range)
+plantRanges =
+    record { index = 0x122; what = record { defined = 0; count = 1 } }
+    ∷ record { index = 0x123; what = record { defined = 1; count = 3 } }
+    ∷ record { index = 0x126; what = record { defined = 0; count = 127 } }
+    ∷ []
+
+abbrev revision5 : Revision
+revision5 = record { version = 5; number = 0; last = 0 }
+
+abbrev closing5 : List Descriptor
+closing5 = record { tag = 0x93; body = hex "E5 00 00" } ∷ []
+
+pub record SectionFields : Type 0 where
+  -- ---- what a section reads as: a plant with another value in every field, units mixed both ways
+  pub reads-carriers : read (content (withoutCrc plantCds)) ≡ right (record { table = Cds; map = 0; structure = carriers 3 plantCarriers; closing = closing5; revision = revision5 })
+  pub reads-modes : read (content (withoutCrc plantMms)) ≡ right (record { table = Mms; map = 0; structure = modes 7 plantModes; closing = closing5; revision = revision5 })
+  pub reads-channels : read (content (withoutCrc plantVcm)) ≡ right (record { table = Vcm; map = 0x0102; structure = channels (record { included = 1; splice = 1; time = 0x12345678; count = 3 }) plantChannels; closing = closing5; revision = revision5 })
+  pub reads-ranges : read (content (withoutCrc plantDcm)) ≡ right (record { table = Dcm; map = 0x0102; structure = ranges (record { first = 0x122; length = 3 }) plantRanges; closing = closing5; revision = revision5 })
+  -- the version is the five low bits, number and last all bits of their bytes; three bytes more are passed over
+  pub reads-revision : read (content (hex "C2 30 00 00 01 00 01 80 00 93 06 DF FE FF 01 02 03")) ≡ right (record { table = Cds; map = 0; structure = carriers 1 []; closing = record { tag = 0x80; body = [] } ∷ record { tag = 0x93; body = hex "DF FE FF 01 02 03" } ∷ []; revision = record { version = 31; number = 254; last = 255 } })
+  -- fields of ones: each has all its bits, and no other
+  pub ones-carriers : carriersOf (hex "FF FF FF FF FF") ≡ record { count = 255; spacing = record { unit = 1; number = 16383 }; first = record { unit = 1; number = 32767 } }
+  pub ones-mode : modeOf (hex "FF FF FF FF FF FF") ≡ record { system = 15; inner = 15; split = 1; format = 31; symbols = 268435455 }
+  pub ones-vcm : vcmHeadOf (hex "FF FF FF FF FF FF FF") ≡ record { included = 1; splice = 1; time = 4294967295; count = 255 }
+  pub ones-dcm : dcmHeadOf (hex "FF FF FF") ≡ record { first = 4095; length = 127 }
+  pub ones-channel : channelOf (hex "FF FF FF FF FF FF FF FF FF") ≡ record { number = 4095; application = 1; path = 1; kind = 15; source = 65535; carrier = 255; signal = Analogue 1 15 }
+  pub ones-digital : channelOf (hex "FF FF EF FF FF FF FF FF FF") ≡ record { number = 4095; application = 1; path = 1; kind = 15; source = 65535; carrier = 255; signal = Digital 65535 255 }
+  pub ones-range : rangeOf (hex "FF") ≡ record { defined = 1; count = 127 }
+  -- "each in its own unit": the spacing in 10 kHz and the frequency in 125 kHz, and the other way round
+  pub units : map (λ k. carrierKhz (carriersOf (hex "02 02 58 81 C8")) k) (0 ∷ 1 ∷ 2 ∷ []) ≡ 57000 ∷ 63000 ∷ 69000 ∷ []
+  pub units-other : map (λ k. carrierKhz (carriersOf (hex "03 80 30 17 70")) k) (0 ∷ 1 ∷ 2 ∷ []) ≡ 60000 ∷ 66000 ∷ 72000 ∷ []
+  -- each bit and each zero bit over all values of its byte: a bit has the second half of its values, zero bits leave so many
+  pub every-spacing : (sweep 256 (λ b. carriersOf (0 ∷ b ∷ []) .spacing .unit) ≡ halves 128 1) × (sweep 256 (λ b. asNumber (carriersZeros (0 ∷ b ∷ []))) ≡ holding 64 64 2)
+  pub every-frequency : sweep 256 (λ b. carriersOf (0 ∷ 0 ∷ 0 ∷ b ∷ []) .first .unit) ≡ halves 128 1
+  pub every-mode : (sweep 256 (λ b. modeOf (0 ∷ b ∷ []) .split) ≡ halves 128 1) × (sweep 256 (λ b. asNumber (modeZeros (0 ∷ b ∷ []))) ≡ holding 32 96 2)
+  pub every-symbols : sweep 256 (λ b. asNumber (modeZeros (0 ∷ 0 ∷ b ∷ []))) ≡ holding 16 240 1
+  pub every-included : (sweep 256 (λ b. vcmHeadOf (b ∷ []) .included) ≡ halves 32 4) × (answered (λ b. asNumber (vcmHeadZeros (b ∷ []))) 1 256 ≡ 0 ∷ 32 ∷ [])
+  pub every-splice : (sweep 256 (λ b. vcmHeadOf (0 ∷ b ∷ []) .splice) ≡ halves 128 1) × (answered (λ b. asNumber (vcmHeadZeros (0 ∷ b ∷ []))) 1 256 ≡ 0 ∷ 128 ∷ [])
+  pub every-number : sweep 256 (λ b. asNumber (channelZeros (b ∷ []))) ≡ holding 16 240 1
+  pub every-flags :
+      (sweep 256 (λ b. channelOf (0 ∷ 0 ∷ b ∷ []) .application) ≡ halves 128 1)
+      × (sweep 256 (λ b. asNumber (channelZeros (0 ∷ 0 ∷ b ∷ []))) ≡ holding 64 64 2)
+      × (sweep 256 (λ b. channelOf (0 ∷ 0 ∷ b ∷ []) .path) ≡ halves 32 4)
+      × (sweep 256 (λ b. transportOf (0 ∷ 0 ∷ b ∷ [])) ≡ halves 16 8)
+  pub every-standard : sweep 256 (λ b. asNumber (channelZeros (hex "00 00 10 00 00 00" ++ (b ∷ [])))) ≡ holding 16 112 2
+  pub every-first : sweep 256 (λ b. asNumber (dcmHeadZeros (b ∷ []))) ≡ holding 16 240 1
+  pub every-length : sweep 256 (λ b. asNumber (dcmHeadZeros (0 ∷ 0 ∷ b ∷ []))) ≡ holding 128 128 1
+  pub every-range : sweep 256 (λ b. rangeOf (b ∷ []) .defined) ≡ halves 128 1
+
+pub section-fields : SectionFields
+unfolding computed swept
+section-fields =
+    record {
+      reads-carriers = refl;
+      reads-modes = refl;
+      reads-channels = refl;
+      reads-ranges = refl;
+      reads-revision = refl;
+      ones-carriers = refl;
+      ones-mode = refl;
+      ones-vcm = refl;
+      ones-dcm = refl;
+      ones-channel = refl;
+      ones-digital = refl;
+      ones-range = refl;
+      units = refl;
+      units-other = refl;
+      every-spacing = (refl, refl);
+      every-frequency = refl;
+      every-mode = (refl, refl);
+      every-symbols = refl;
+      every-included = (refl, refl);
+      every-splice = (refl, refl);
+      every-number = refl;
+      every-flags = (refl, refl, refl, refl);
+      every-standard = refl;
+      every-first = refl;
+      every-length = refl;
+      every-range = refl;
+    }

@@ -1,0 +1,95 @@
+-- Document 01, "Expected form in each place": "An answer may be an enum. In that case, a definition gives this paper's number and values for
+-- each of the enum's cases, and the promises use that definition." The four enums that an entry point answers, in the paper's terms.
+use Prim.Native.Nat.{ℕ}
+use Prim.Native.String.{String}
+use mathlib.Core.List.{List, [], _∷_, _++_}
+use Rattle.rules.specs.Section.{readSection, readAs, ask}
+use Rattle.rules.specs.Holding.{indexOf, offered}
+use Rattle.rules.specs.Tuning.{tune}
+use Rattle.rules.specs.declared.Mode.{Mode}
+use Rattle.rules.specs.declared.SectionHead.{SectionHead}
+use Rattle.rules.specs.declared.State.{State}
+use Rattle.rules.specs.declared.Read.{Read}
+use Rattle.rules.specs.declared.Read.the-variants as Read
+use Rattle.rules.specs.declared.Asked.{Asked}
+use Rattle.rules.specs.declared.Asked.the-variants as Asked
+use Rattle.rules.specs.declared.Answer.{Answer}
+use Rattle.rules.specs.declared.Answer.the-variants as Answer
+use Rattle.rules.specs.declared.Tuned.{Tuned}
+use Rattle.rules.specs.declared.Tuned.the-variants as Tuned
+
+-- the number of the refusal, or 0 where there is none; the paper's word; and the values that go with it
+pub record Said : Type 0 where
+  pub refusal : ℕ
+  pub word : String
+  pub values : List ℕ
+
+-- "A refusal returns its number only."
+unfoldable pub refusedBy : (number : ℕ) → Said
+refusedBy number = record { refusal = number; word = "refusal"; values = [] }
+
+unfoldable pub says : String → List ℕ → Said
+says word values = record { refusal = 0; word = word; values = values }
+
+-- ---- a section reads right, "as that table, map, version, number and last"; and, ours, where its records begin, how many there are, and
+-- where its closing list begins
+
+unfoldable pub headValues : SectionHead → List ℕ
+headValues h =
+    indexOf (h .table)
+    ∷ h .map
+    ∷ h .revision .version
+    ∷ h .revision .number
+    ∷ h .revision .last
+    ∷ h .records
+    ∷ h .count
+    ∷ h .closing
+    ∷ []
+
+unfoldable pub readSaid : Read → Said
+readSaid (Read.Refused n) = refusedBy n
+readSaid (Read.Right h) = says "reads right" (headValues h)
+
+-- ---- the question for a descriptor: there is none, or its body is a part of the section, which begins there and has so many bytes
+
+unfoldable pub askedSaid : Asked → Said
+askedSaid (Asked.Refused n) = refusedBy n
+askedSaid Asked.Absent = says "none" []
+askedSaid (Asked.There start size) = says "part" (start ∷ size ∷ [])
+
+-- ---- an offer: "other map", "repeat", "stored, with how many sections are still missing", "live, with v"
+
+unfoldable pub answerSaid : Answer → Said
+answerSaid (Answer.Refused n) = refusedBy n
+answerSaid Answer.OtherMap = says "other map" []
+answerSaid Answer.Repeat = says "repeat" []
+answerSaid (Answer.Stored missing) = says "stored" (missing ∷ [])
+answerSaid (Answer.Live v) = says "live" (v ∷ [])
+
+-- ---- a channel number: "digital (frequency, programme, mode record) or analogue (frequency, standard, scrambled), with path and hidden"; an
+-- application channel "its application number, path and hidden flag"
+
+unfoldable pub modeValues : Mode → List ℕ
+modeValues m = m .system ∷ m .inner ∷ m .split ∷ m .format ∷ m .symbols ∷ []
+
+unfoldable pub tunedSaid : Tuned → Said
+tunedSaid (Tuned.Refused n) = refusedBy n
+tunedSaid (Tuned.Digital hidden path khz program mode) =
+    says "digital" (khz ∷ program ∷ modeValues mode ++ (path ∷ hidden ∷ []))
+tunedSaid (Tuned.Analogue hidden path khz standard scrambled) =
+    says "analogue" (khz ∷ standard ∷ scrambled ∷ path ∷ hidden ∷ [])
+tunedSaid (Tuned.Application hidden path number) = says "application" (number ∷ path ∷ hidden ∷ [])
+
+-- ---- what document 01 answers, in these terms: to a section, to the question for a descriptor, to an offer, to a channel number
+
+unfoldable pub sectionSaid : (section : List ℕ) → Said
+sectionSaid section = readSaid (readAs section (readSection section))
+
+unfoldable pub askSaid : (tag : ℕ) → (section : List ℕ) → Said
+askSaid tag section = askedSaid (ask tag section)
+
+unfoldable pub offerSaid : State → (size : ℕ) → (section : List ℕ) → Said
+offerSaid s size section = answerSaid (offered s size section .answer)
+
+unfoldable pub tuneSaid : State → (store : List ℕ) → (number : ℕ) → Said
+tuneSaid s store number = tunedSaid (tune s store number)

@@ -1,0 +1,276 @@
+"""Every small change of the rules: one comparison, constant, field, operand or word of crates/rules/specs made another, one at a time.
+
+A change is a place in a file and the text that stands there instead. What is changed is what a definition says, behind its `=`, and in
+Growth.antt what its relations ask; signatures, patterns, comments and imports stay. The kinds:
+
+    number       a constant one higher, and one lower
+    compared     leb for ltb and the other way round; eqb loosened to leb, either way round
+    operand      of && and || one side alone
+    turned       `not` left out
+    tested       what cond, unless or needs tests taken for true, and for false
+    operator     + for -, * for +, / for % and the other way round, ^ for *
+    field        a field of a struct for its neighbour of the same type
+    argument     a definition's argument for the next one of its type
+    word         a table or an answer for its neighbour, true for false, a printed text with another letter
+    demand       of a relation of Growth.antt one field left out
+"""
+import dataclasses
+import re
+
+WORD = re.compile(r'"(?:[^"\\]|\\.)*"|--[^\n]*|[^\s(){};,"]+|[(){};,]')
+NUMBER = re.compile(r"0x[0-9A-Fa-f]+|[0-9]+")
+NAME = re.compile(r"[^\W\d][\w·'-]*")
+DECLARED = re.compile(r"^ *(?:unfoldable|abbrev) pub (?P<name>\S+)|^pub (?P<kind>record|data) (?P<type>\S+)")
+OPERATORS = {"+": "-", "-": "+", "*": "+", "/": "%", "%": "/", "^": "*"}
+COMPARED = {"leb": "ltb", "ltb": "leb"}
+TESTED = {"cond", "unless", "needs"}
+ENDS = {")", "}", ";", ",", "∷", "++", "≡", "→", "in"}
+NEIGHBOURS = {
+    "Cds": "Mms", "Mms": "Vcm", "Vcm": "Dcm", "Dcm": "Cds", "true": "false", "false": "true", "OtherMap": "Repeat",
+    "Repeat": "OtherMap", "Stored": "Live", "Live": "Stored",
+}
+# what a change may name; a name that the file has already may be brought in again
+IMPORTS = (
+    "use Prim.Native.Nat.{_+_, _-_, _*_, _/_, _%_, _^_}\n"
+    "use mathlib.Core.Bool.{true, false}\n"
+    "use lib.Dec.{leb, ltb}\n"
+)
+
+
+@dataclasses.dataclass(frozen=True)
+class Token:
+    text: str
+    start: int
+    end: int
+
+
+@dataclasses.dataclass(frozen=True)
+class Change:
+    file: str
+    definition: str
+    kind: str
+    start: int
+    end: int
+    new: str
+    shown: str
+
+    def key(self):
+        return f"{self.file} {self.definition}: {self.shown}"
+
+
+def tokens_of(text):
+    return [Token(m[0], m.start(), m.end()) for m in WORD.finditer(text) if not m[0].startswith("--")]
+
+
+def structs_of(crate):
+    """The fields of each declared struct and of each record of the specs, with their types."""
+    structs = []
+    source = (crate / "src" / "lib.rt").read_text(encoding="utf-8")
+    for body in re.findall(r"struct \w+ \{(.*?)\n\}", source, re.DOTALL):
+        structs.append(re.findall(r"pub (\w+): (\w+),", body))
+    for spec in sorted((crate / "specs").glob("*.antt")):
+        for block in re.split(r"\n\n", spec.read_text(encoding="utf-8")):
+            if re.search(r"^pub record", block, re.MULTILINE):
+                structs.append(re.findall(r"^  pub (\w+) : (.+)$", block, re.MULTILINE))
+    return structs
+
+
+def neighbour_fields(structs, field):
+    """For each struct that has the field, the next one of its type."""
+    found = []
+    for fields in structs:
+        alike = [name for name, kind in fields if (field, kind) in fields]
+        if field in alike and len(alike) > 1:
+            found.append(alike[(alike.index(field) + 1) % len(alike)])
+    return sorted(set(found))
+
+
+def atom_end(tokens, at):
+    """The index behind the argument that begins at a token: a group, or one word with its projections left out."""
+    if tokens[at].text not in ("(", "{"):
+        return at + 1
+    depth = 0
+    for i in range(at, len(tokens)):
+        depth += tokens[i].text in ("(", "{")
+        depth -= tokens[i].text in (")", "}")
+        if depth == 0:
+            return i + 1
+    raise ValueError("a group without an end")
+
+
+def operand(tokens, at, step):
+    """The index of the last token of what stands on one side of the && or || at a token."""
+    depth, i = 0, at + step
+    while 0 <= i < len(tokens):
+        text = tokens[i].text
+        opens, closes = ("(", "{"), (")", "}")
+        if step < 0:
+            opens, closes = closes, opens
+        if depth == 0 and (text in closes or text in ENDS or text in ("&&", "||", "=") or text.endswith(".")):
+            break
+        depth += (text in opens) - (text in closes)
+        i += step
+    return i - step
+
+
+def number_changes(token):
+    value = int(token.text, 0)
+    form = "0x{:02X}" if token.text.startswith("0x") else "{}"
+    for other in ([value - 1] if value else []) + [value + 1]:
+        yield "number", token.start, token.end, form.format(other)
+
+
+def test_changes(tokens, at):
+    end = atom_end(tokens, at + 1)
+    for truth in ("true", "false"):
+        yield "tested", tokens[at + 1].start, tokens[end - 1].end, truth
+
+
+def equal_changes(text, tokens, at):
+    """eqb a b loosened to leb a b and to leb b a."""
+    first = atom_end(tokens, at + 1)
+    second = atom_end(tokens, first)
+    a = text[tokens[at + 1].start : tokens[first - 1].end]
+    b = text[tokens[first].start : tokens[second - 1].end]
+    # a number that is at most 0 is 0
+    if b != "0":
+        yield "compared", tokens[at].start, tokens[second - 1].end, f"leb {a} {b}"
+    yield "compared", tokens[at].start, tokens[second - 1].end, f"leb {b} {a}"
+
+
+def side_changes(text, tokens, at):
+    left, right = operand(tokens, at, -1), operand(tokens, at, 1)
+    start, end = tokens[left].start, tokens[right].end
+    yield "operand", start, end, text[start : tokens[at - 1].end]
+    yield "operand", start, end, text[tokens[at + 1].start : end]
+
+
+def other_letter(token):
+    letters = [i for i, c in enumerate(token.text) if c.isalpha() and token.text[i - 1] != "\\"]
+    if letters:
+        i = letters[-1]
+        other = "y" if token.text[i] == "z" else "z"
+        yield "word", token.start, token.end, token.text[:i] + other + token.text[i + 1 :]
+
+
+def token_changes(text, tokens, at, structs, arguments):
+    token = tokens[at]
+    word = token.text
+    if word.startswith('"'):
+        yield from other_letter(token)
+    elif NUMBER.fullmatch(word):
+        yield from number_changes(token)
+    elif word in COMPARED:
+        yield "compared", token.start, token.end, COMPARED[word]
+    elif word == "eqb":
+        yield from equal_changes(text, tokens, at)
+    elif word in ("&&", "||"):
+        yield from side_changes(text, tokens, at)
+    elif word == "not":
+        yield "turned", token.start, token.end, ""
+    elif word in TESTED:
+        yield from test_changes(tokens, at)
+    elif word in OPERATORS:
+        yield "operator", token.start, token.end, OPERATORS[word]
+    elif word.startswith(".") and len(word) > 1:
+        for other in neighbour_fields(structs, word[1:]):
+            yield "field", token.start, token.end, "." + other
+    elif word in NEIGHBOURS:
+        yield "word", token.start, token.end, NEIGHBOURS[word]
+    elif word in arguments:
+        alike = [name for name, kind in arguments.items() if kind == arguments[word]]
+        if len(alike) > 1:
+            yield "argument", token.start, token.end, alike[(alike.index(word) + 1) % len(alike)]
+
+
+def types_of(signature):
+    """The types of a definition's arguments, in their order; implicit ones are left out."""
+    types, depth, word = [], 0, ""
+    for token in tokens_of(signature) + [Token("→", 0, 0)]:
+        depth += (token.text in "({") - (token.text in ")}")
+        if depth == 0 and token.text == "→":
+            named = re.fullmatch(r"\( (.*?) : (.*) \)", word.strip())
+            if named:
+                types += [named[2]] * len(named[1].split())
+            elif not word.strip().startswith("{"):
+                types.append(word.strip())
+            word = ""
+        else:
+            word += " " + token.text
+    return types[:-1]
+
+
+def equations(text):
+    """Each equation of a definition: its name, its arguments with their types, and where its body begins and ends."""
+    lines, at, name, kind, types = text.splitlines(keepends=True), 0, None, None, []
+    spans = []
+    for line in lines:
+        declared = DECLARED.match(line)
+        if declared:
+            kind, name = declared["kind"], declared["name"] or declared["type"]
+            types = types_of(line.partition(" : ")[2])
+        bare = line.strip()
+        if kind is None and name and not declared and re.match(rf"{re.escape(name)}( |$)", bare):
+            equals = re.search(r"(?<= )=(?=\s)", line)
+            if equals:
+                patterns = re.findall(r"\(.*?\)|\S+", line[: equals.start()])[1:]
+                arguments = {p: t for p, t in zip(patterns, types) if NAME.fullmatch(p)}
+                # a pattern that takes a value apart binds names of types that the signature doesn't say: neighbours there are tried
+                for pattern in patterns:
+                    if pattern.startswith("("):
+                        arguments |= {w: pattern for w in re.findall(r"[^\s()]+", pattern)[1:] if NAME.fullmatch(w)}
+                spans.append([name, arguments, at + equals.end(), at + len(line)])
+        elif spans and spans[-1][0] == name and kind is None and not declared and bare and not bare.startswith("--"):
+            spans[-1][3] = at + len(line)
+        elif kind and name and not declared and bare and not bare.startswith("--") and " : " in line:
+            # a field of a record or a constructor of a relation
+            spans.append([f"{name}.{bare.split()[1 if bare.startswith('pub ') else 0]}", {}, at + line.index(" : ") + 3, at + len(line)])
+        elif kind and spans and spans[-1][0].startswith(f"{name}.") and not declared and bare and not bare.startswith("--"):
+            spans[-1][3] = at + len(line)
+        at += len(line)
+    return spans
+
+
+def shown(text, start, end, new):
+    """The change in the words around it: the line with the old text in ⟨ ⟩ and the new one behind it."""
+    first = text.rfind("\n", 0, start) + 1
+    last = text.find("\n", end)
+    words = text[first:start] + "⟨" + text[start:end] + " ⇒ " + new + "⟩" + text[end:last]
+    return " ".join(words.split())
+
+
+def demands(file, text):
+    """Of the relations of Growth.antt: each field left out."""
+    for block in re.finditer(r"^pub record (\w+) \(.*?\) : Type 0 where\n((?:  .*\n)+)", text, re.MULTILINE):
+        for field in re.finditer(r"^  pub (\w+) : (.*)\n", block[2], re.MULTILINE):
+            start = block.start(2) + field.start(2)
+            yield Change(file, f"{block[1]}.{field[1]}", "demand", start, start + len(field[2]), "Unit {0}", f"⟨{field[2]} ⇒ asked for nothing⟩")
+
+
+def changes_of(crate, file):
+    """All changes of one file of the specs, in its order."""
+    text = (crate / "specs" / f"{file}.antt").read_text(encoding="utf-8")
+    structs = structs_of(crate)
+    tokens = tokens_of(text)
+    for name, arguments, start, end in equations(text):
+        inside = [t for t in tokens if start <= t.start < end]
+        # a record or a relation has rules of its own in Growth.antt alone; elsewhere it only names types
+        if "." in name and file != "Growth":
+            continue
+        for at in range(len(inside)):
+            for kind, first, last, new in token_changes(text, inside, at, structs, arguments):
+                yield Change(file, name, kind, first, last, new, shown(text, first, last, new))
+    if file == "Growth":
+        yield from demands(file, text)
+
+
+def changed(crate, change):
+    """The text of the file with the change made."""
+    text = (crate / "specs" / f"{change.file}.antt").read_text(encoding="utf-8")
+    return IMPORTS + text[: change.start] + change.new + text[change.end :]
+
+
+def files_of(crate):
+    """The files of the specs, in the order in which they are to be read."""
+    lib = (crate / "specs" / "Lib.antt").read_text(encoding="utf-8")
+    return re.findall(r"^pub mod (\w+)", lib, re.MULTILINE)
