@@ -36,7 +36,8 @@ pub record GrowthLimits : Type 0 where
   pub version : GrownRevision (d 0x93 "E5 01 03") (d 0x93 "F5 01 03") → ⊥
   pub number : GrownRevision (d 0x93 "E5 01 03") (d 0x93 "E5 02 03") → ⊥
   pub last : GrownRevision (d 0x93 "E5 01 03") (d 0x93 "E5 01 02") → ⊥
-  -- ---- the parts of a section: four bytes of header and the head in front, records of their size, as many as the count says, lists only behind records that have them
+  -- ---- the parts of a section: four bytes of header and the head in front, records of their size, as many as the count says, lists only
+  -- behind records that have them
   pub shaped : Shaped Vcm (parts 0xC4 0x30 (hex "00 00 00 00 20 00 00 00 00 00 01") (channel1 (d 0x80 "" ∷ [])))
   pub front-short : Shaped Cds (parts 0xC2 0x30 (hex "00 01 01") record1) → ⊥
   pub front-long : Shaped Cds (parts 0xC2 0x30 (hex "00 01 01 01 00") record1) → ⊥

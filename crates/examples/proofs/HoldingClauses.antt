@@ -34,6 +34,10 @@ holding l g half = record { live = l; gathered = g; half = half }
 abbrev pub state : (cds mms vcm dcm : Holding) → State
 state cds mms vcm dcm = record { map = 0x0102; cds = cds; mms = mms; vcm = vcm; dcm = dcm }
 
+-- the same of each table
+abbrev pub allTables : Holding → State
+allTables h = state h h h h
+
 abbrev pub revised : (version number last : ℕ) → Revision
 revised version number last = record { version = version; number = number; last = last }
 
@@ -94,13 +98,19 @@ pub record HoldingClauses : Type 0 where
   pub size : storeSize 4 ≡ 32768
   -- the section in a place is its first 3 + L bytes, and never more than the place
   pub place-section : sectionAt (hex "C2 30 09 C2 30 02 AA BB CC") 3 ≡ hex "C2 30 02 AA BB"
-  pub place-long : length (sectionAt (0xC2 ∷ 0x33 ∷ 0xFD ∷ replicate 2000 0) 0) ∷ length (sectionAt (0xC2 ∷ 0x33 ∷ 0xFE ∷ replicate 2000 0) 0) ∷ [] ≡ 1024 ∷ 1024 ∷ []
+  pub place-long :
+      length (sectionAt (0xC2 ∷ 0x33 ∷ 0xFD ∷ replicate 2000 0) 0) ∷ length (sectionAt (0xC2 ∷ 0x33 ∷ 0xFE ∷ replicate 2000 0) 0) ∷ []
+      ≡ 1024 ∷ 1024 ∷ []
   -- bytes put at the front of a place: what is in front of them and behind them stays
   pub puts : put (hex "00 01 02 03 04 05") 2 (hex "AA BB CC") ≡ hex "00 01 AA BB CC 05"
   -- ---- the state
-  pub starts : fresh 258 ≡ state (holding (live 0 0 0) (gathered 0 0 0 0) 1) (holding (live 0 0 0) (gathered 0 0 0 0) 1) (holding (live 0 0 0) (gathered 0 0 0 0) 1) (holding (live 0 0 0) (gathered 0 0 0 0) 1)
+  pub starts :
+      fresh 258
+      ≡ allTables (holding (live 0 0 0) (gathered 0 0 0 0) 1)
   pub of-tables : map (holdingOf mixed) (Cds ∷ Mms ∷ Vcm ∷ Dcm ∷ []) ≡ first ∷ second ∷ third ∷ fourth ∷ []
-  pub with-table : map (λ t. with mixed t both) (Cds ∷ Mms ∷ Vcm ∷ Dcm ∷ []) ≡ state both second third fourth ∷ state first both third fourth ∷ state first second both fourth ∷ state first second third both ∷ []
+  pub with-table :
+      map (λ t. with mixed t both) (Cds ∷ Mms ∷ Vcm ∷ Dcm ∷ [])
+      ≡ state both second third fourth ∷ state first both third fourth ∷ state first second both fourth ∷ state first second third both ∷ []
   -- the live half is the one set; gathering uses the other, whether anything is live or not
   pub live-half : map (λ t. liveAt mixed t 1) (Cds ∷ Mms ∷ Vcm ∷ Dcm ∷ []) ≡ 1 * 1024 ∷ 13 * 1024 ∷ 21 * 1024 ∷ 25 * 1024 ∷ []
   pub gathered-half : map (λ t. gatheredAt mixed t 1) (Cds ∷ Mms ∷ Vcm ∷ Dcm ∷ []) ≡ 5 * 1024 ∷ 9 * 1024 ∷ 17 * 1024 ∷ 29 * 1024 ∷ []
@@ -118,15 +128,21 @@ pub record HoldingClauses : Type 0 where
   -- the same of what is gathered, and of its numbers
   pub two-gathered-version : answered (λ n. formedGathered (gathered 1 n 1 1)) 1 256 ≡ counting 0 32
   pub two-gathered-last : answered (λ n. formedGathered (gathered 1 0 n 1)) 1 256 ≡ 1 ∷ 2 ∷ 3 ∷ []
-  pub two-gathered-present : answered (λ n. formedGathered (gathered n 0 0 0)) 1 256 ∷ answered (λ n. formedGathered (gathered n 0 1 1)) 1 256 ∷ [] ≡ (0 ∷ []) ∷ (1 ∷ []) ∷ []
+  pub two-gathered-present :
+      answered (λ n. formedGathered (gathered n 0 0 0)) 1 256 ∷ answered (λ n. formedGathered (gathered n 0 1 1)) 1 256 ∷ []
+      ≡ (0 ∷ []) ∷ (1 ∷ []) ∷ []
   pub two-gathered-absent :
       (answered (λ n. formedGathered (gathered 0 n 0 0)) 1 256 ≡ 0 ∷ [])
       × (answered (λ n. formedGathered (gathered 0 0 n 0)) 1 256 ≡ 0 ∷ [])
       × (answered (λ n. formedGathered (gathered 0 0 0 n)) 1 256 ≡ 0 ∷ [])
   -- gathered numbers empty, complete or beyond last, which is any bit above it
-  pub two-held : map (λ last. answered (λ n. formedGathered (gathered 1 5 last n)) 1 256) (0 ∷ 1 ∷ 2 ∷ 3 ∷ []) ≡ [] ∷ counting 1 2 ∷ counting 1 6 ∷ counting 1 14 ∷ []
+  pub two-held :
+      map (λ last. answered (λ n. formedGathered (gathered 1 5 last n)) 1 256) (0 ∷ 1 ∷ 2 ∷ 3 ∷ [])
+      ≡ [] ∷ counting 1 2 ∷ counting 1 6 ∷ counting 1 14 ∷ []
   -- half above 1, with anything live or not
-  pub two-half : (answered (λ n. formed (holding noneLive noneGathered n)) 1 256 ≡ 0 ∷ 1 ∷ []) × (answered (λ n. formed (holding (live 1 6 1) (gathered 1 5 3 6) n)) 1 256 ≡ 0 ∷ 1 ∷ [])
+  pub two-half :
+      (answered (λ n. formed (holding noneLive noneGathered n)) 1 256 ≡ 0 ∷ 1 ∷ [])
+      × (answered (λ n. formed (holding (live 1 6 1) (gathered 1 5 3 6) n)) 1 256 ≡ 0 ∷ 1 ∷ [])
   -- live and gathered version equal, whatever their last; where one of them is absent it has no version
   pub two-same : answered (λ n. formed (holding (live 1 6 1) (gathered 1 n 3 6) 0)) 0 32 ≡ 6 ∷ []
   pub two-same-absent : formed (holding noneLive (gathered 1 0 1 1) 0) ∷ formed (holding (live 1 0 0) noneGathered 0) ∷ [] ≡ 1 ∷ 1 ∷ []
@@ -143,7 +159,9 @@ pub record HoldingClauses : Type 0 where
       ∷ [])
       ≡ Refused 3 ∷ Refused 2 ∷ Refused 2 ∷ Refused 2 ∷ Refused 2 ∷ []
   -- ---- step 1: 0xC4 with another map number, and 0xC2 has none; the state stays
-  pub other-map : map (λ t. offeredAs mixed (right (said t 0x0103 (revised 7 0 1))) .answer) (Cds ∷ Mms ∷ Vcm ∷ Dcm ∷ []) ≡ Stored 1 ∷ Stored 1 ∷ OtherMap ∷ OtherMap ∷ []
+  pub other-map :
+      map (λ t. offeredAs mixed (right (said t 0x0103 (revised 7 0 1))) .answer) (Cds ∷ Mms ∷ Vcm ∷ Dcm ∷ [])
+      ≡ Stored 1 ∷ Stored 1 ∷ OtherMap ∷ OtherMap ∷ []
   pub other-map-state : map (λ t. offeredAs mixed (right (said t 0x0103 (revised 7 0 1))) .state) (Vcm ∷ Dcm ∷ []) ≡ mixed ∷ mixed ∷ []
   pub other-map-before : offeredAs mixed (right (said Vcm 0x0002 (revised 7 0 4))) .answer ≡ OtherMap
   -- of our map its table's holding moves, and no other
@@ -154,7 +172,9 @@ pub record HoldingClauses : Type 0 where
       ∷ record { answer = Live 7; state = with mixed Dcm (holding (live 1 7 0) noneGathered 1) }
       ∷ []
   -- each table has its own versions: version 2 is live in the MMS alone
-  pub own-versions : map (λ t. offeredAs mixed (right (said t 0x0102 (revised 2 0 1))) .answer) (Cds ∷ Mms ∷ Vcm ∷ Dcm ∷ []) ≡ Stored 1 ∷ Repeat ∷ Stored 1 ∷ Stored 1 ∷ []
+  pub own-versions :
+      map (λ t. offeredAs mixed (right (said t 0x0102 (revised 2 0 1))) .answer) (Cds ∷ Mms ∷ Vcm ∷ Dcm ∷ [])
+      ≡ Stored 1 ∷ Repeat ∷ Stored 1 ∷ Stored 1 ∷ []
   pub refused-state : offeredAs mixed (wrong 9) ≡ record { answer = Refused 9; state = mixed }
   -- ---- step 2: last above 3, whatever is live or gathered; step 3 comes behind it
   pub twelve : map (λ last. stepOf 4 both (revised 6 0 last) .answer) (3 ∷ 4 ∷ 255 ∷ []) ≡ Refused 13 ∷ Refused 12 ∷ Refused 12 ∷ []
@@ -169,17 +189,25 @@ pub record HoldingClauses : Type 0 where
   pub none-zero-live : stepOf 4 freshHolding (revised 0 0 0) ≡ record { answer = Live 0; holding = holding (live 1 0 0) noneGathered 0 }
   -- ---- step 4: the live version, or a number that is held already; what is gathered stays
   pub repeats : map (λ n. stepOf 4 both (revised 5 n 3) .answer) (0 ∷ 1 ∷ 2 ∷ 3 ∷ []) ≡ Stored 1 ∷ Repeat ∷ Repeat ∷ Stored 1 ∷ []
-  pub repeats-live : map (λ n. stepOf 4 both (revised 6 n 1)) (0 ∷ 1 ∷ []) ≡ record { answer = Repeat; holding = both } ∷ record { answer = Repeat; holding = both } ∷ []
+  pub repeats-live :
+      map (λ n. stepOf 4 both (revised 6 n 1)) (0 ∷ 1 ∷ [])
+      ≡ record { answer = Repeat; holding = both } ∷ record { answer = Repeat; holding = both } ∷ []
   pub repeats-holding : stepOf 4 both (revised 5 1 3) .holding ≡ both
   -- ---- step 5: n joins, or what was gathered is dropped; a version is another, whether it is bigger or smaller
-  pub joins : map (λ n. stepOf 4 both (revised 5 n 3) .holding) (0 ∷ 3 ∷ []) ≡ holding (live 1 6 1) (gathered 1 5 3 0x07) 0 ∷ holding (live 1 6 1) (gathered 1 5 3 0x0E) 0 ∷ []
+  pub joins :
+      map (λ n. stepOf 4 both (revised 5 n 3) .holding) (0 ∷ 3 ∷ [])
+      ≡ holding (live 1 6 1) (gathered 1 5 3 0x07) 0 ∷ holding (live 1 6 1) (gathered 1 5 3 0x0E) 0 ∷ []
   pub begins : map (λ v. stepOf 4 both (revised v 2 3)) (4 ∷ 31 ∷ [])
       ≡ record { answer = Stored 3; holding = holding (live 1 6 1) (gathered 1 4 3 0x04) 0 }
       ∷ record { answer = Stored 3; holding = holding (live 1 6 1) (gathered 1 31 3 0x04) 0 }
       ∷ []
   -- ---- step 6: all of 0 to last are held: live, gathering is empty, halves change roles; else how many are still missing
-  pub lives : stepOf 4 (holding (live 1 6 1) (gathered 1 5 3 0x07) 0) (revised 5 3 3) ≡ record { answer = Live 5; holding = holding (live 1 5 3) noneGathered 1 }
-  pub lives-back : stepOf 4 (holding (live 1 6 1) (gathered 1 5 1 0x02) 1) (revised 5 0 1) ≡ record { answer = Live 5; holding = holding (live 1 5 1) noneGathered 0 }
+  pub lives :
+      stepOf 4 (holding (live 1 6 1) (gathered 1 5 3 0x07) 0) (revised 5 3 3)
+      ≡ record { answer = Live 5; holding = holding (live 1 5 3) noneGathered 1 }
+  pub lives-back :
+      stepOf 4 (holding (live 1 6 1) (gathered 1 5 1 0x02) 1) (revised 5 0 1)
+      ≡ record { answer = Live 5; holding = holding (live 1 5 1) noneGathered 0 }
   pub missing : map (λ last. stepOf 4 both (revised 7 0 last) .answer) (0 ∷ 1 ∷ 2 ∷ 3 ∷ []) ≡ Live 7 ∷ Stored 1 ∷ Stored 2 ∷ Stored 3 ∷ []
   -- ---- the store after an offer
   pub takes : map (λ a. asNumber (takesIn a)) (Refused 5 ∷ OtherMap ∷ Repeat ∷ Stored 1 ∷ Live 5 ∷ []) ≡ 0 ∷ 0 ∷ 0 ∷ 1 ∷ 1 ∷ []
@@ -187,7 +215,9 @@ pub record HoldingClauses : Type 0 where
   pub stores : storeAfter (fresh 0) emptyStore carriersTwo ≡ replicate 2048 0 ++ carriersTwo ++ replicate 30704 0
   pub stores-refused : storeAfter (fresh 0) (hex "01 02 03") carriersTwo ≡ hex "01 02 03"
   pub stores-answer : answerTo (record { state = fresh 0; store = emptyStore }) carriersTwo ≡ Stored 3
-  pub stores-state : boxAfter (record { state = fresh 0; store = emptyStore }) carriersTwo .state ≡ with (fresh 0) Cds (holding noneLive (gathered 1 5 3 0x04) 1)
+  pub stores-state :
+      boxAfter (record { state = fresh 0; store = emptyStore }) carriersTwo .state
+      ≡ with (fresh 0) Cds (holding noneLive (gathered 1 5 3 0x04) 1)
   -- "Splice and time are not acted on"
   pub at-once : offered (fresh 0x0102) 32768 channelsLate .answer ≡ Live 5
 

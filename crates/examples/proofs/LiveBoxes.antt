@@ -1,4 +1,5 @@
--- Document 01, "From number to tuner", through `tune` of live boxes, computed: C2 to C4, a plant with another value in every field, two sections of one table, and
+-- Document 01, "From number to tuner", through `tune` of live boxes, computed: C2 to C4, a plant with another value in every field, two
+-- sections of one table, and
 -- refusals 1, 2, 14, 15 and 16 in their order.
 use Prim.Native.Nat.{ℕ}
 use mathlib.Core.Path.{_≡_, refl}
@@ -38,7 +39,8 @@ borderStore =
     (hex "C4 30 38 00 00 00 00 00 00 00 00 00 00 04 00 02 00 12 34 02 00 03 01 00 03 00 12 34 03 00 03 01 00 04 00 12 34 04 00 03 01 00 05 00 12 34 05 00 03 01 93 03 E5 00 00 A9 F1 EE 35")
     (hex "C4 30 11 00 01 00 00 00 02 01 84 93 03 E5 00 00 0C B9 F5 D9")
 
--- two sections of carriers, version 6: carrier 2 at 54,000 kHz in section 0; carrier 2 at 57,000 and carrier 3 at 60,000 in section 1; for channels 2 and 3 of map 0
+-- two sections of carriers, version 6: carrier 2 at 54,000 kHz in section 0; carrier 2 at 57,000 and carrier 3 at 60,000 in section 1; for
+-- channels 2 and 3 of map 0
 abbrev pub lowCds : List ℕ
 lowCds = hex "C2 30 13 00 02 01 01 01 00 00 15 18 00 93 03 E6 00 01 01 B7 C6 AD"
 
@@ -68,7 +70,9 @@ pub record LiveBoxes : Type 0 where
       ∷ Tuned.Refused 17
       ∷ []
   -- C2, C3 and C4
-  pub tunes-borders : map (tune borderState borderStore) (2 ∷ 3 ∷ 4 ∷ 5 ∷ []) ≡ Tuned.Digital 0 0 54000 3 c12 ∷ Tuned.Refused 20 ∷ Tuned.Digital 0 0 1002000 3 c12 ∷ Tuned.Refused 20 ∷ []
+  pub tunes-borders :
+      map (tune borderState borderStore) (2 ∷ 3 ∷ 4 ∷ 5 ∷ [])
+      ≡ Tuned.Digital 0 0 54000 3 c12 ∷ Tuned.Refused 20 ∷ Tuned.Digital 0 0 1002000 3 c12 ∷ Tuned.Refused 20 ∷ []
   -- the lowest section first, by its number; a record of a later section is found too, and each counts from its own first index
   pub tunes-lowest : map (tune twoState (twoStore lowCds highCds)) (2 ∷ 3 ∷ []) ≡ Tuned.Digital 0 0 54000 3 c12 ∷ Tuned.Digital 0 0 60000 3 c12 ∷ []
   -- ---- 1, 2, 14, 15, 16, in their order
@@ -76,9 +80,13 @@ pub record LiveBoxes : Type 0 where
   pub order-two : tune (with live5 Dcm (holding noneLive noneGathered 2)) plantStore 4096 ≡ Tuned.Refused 2
   pub order-fourteen : map (tune (with live5 Dcm freshHolding) emptyStore) (4095 ∷ 4096 ∷ []) ≡ Tuned.Refused 15 ∷ Tuned.Refused 14 ∷ []
   -- 15: each of the four tables; before 16
-  pub fifteen : map (λ t. tune (with live5 t freshHolding) emptyStore 3) (Cds ∷ Mms ∷ Vcm ∷ Dcm ∷ []) ≡ Tuned.Refused 15 ∷ Tuned.Refused 15 ∷ Tuned.Refused 15 ∷ Tuned.Refused 15 ∷ []
+  pub fifteen :
+      map (λ t. tune (with live5 t freshHolding) emptyStore 3) (Cds ∷ Mms ∷ Vcm ∷ Dcm ∷ [])
+      ≡ Tuned.Refused 15 ∷ Tuned.Refused 15 ∷ Tuned.Refused 15 ∷ Tuned.Refused 15 ∷ []
   -- 16: a place of each table that no longer reads right; the other half doesn't count; before 17
-  pub sixteen : map (λ t. tune (with live5 t (holding (live 1 5 0) noneGathered 1)) plantStore 0x121) (Cds ∷ Mms ∷ Vcm ∷ Dcm ∷ []) ≡ Tuned.Refused 16 ∷ Tuned.Refused 16 ∷ Tuned.Refused 16 ∷ Tuned.Refused 16 ∷ []
+  pub sixteen :
+      map (λ t. tune (with live5 t (holding (live 1 5 0) noneGathered 1)) plantStore 0x121) (Cds ∷ Mms ∷ Vcm ∷ Dcm ∷ [])
+      ≡ Tuned.Refused 16 ∷ Tuned.Refused 16 ∷ Tuned.Refused 16 ∷ Tuned.Refused 16 ∷ []
   -- every live place is read, the first and the last
   pub sixteen-first : tune twoState (twoStore highCds highCds) 2 ≡ Tuned.Refused 16
   pub sixteen-second : tune twoState (twoStore lowCds lowCds) 2 ≡ Tuned.Refused 16

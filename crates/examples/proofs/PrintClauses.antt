@@ -60,22 +60,32 @@ pub record PrintClauses : Type 0 where
   pub sections-none : sectionsOf [] ≡ []
   pub starts : freshBox 258 ≡ record { state = fresh 258; store = replicate 32768 0 }
   -- answers with a number are counted as refused, and no other
-  pub counted : map (λ a. refusals (a ∷ Answer.Refused 1 ∷ [])) (Answer.Refused 12 ∷ Answer.OtherMap ∷ Answer.Repeat ∷ Answer.Stored 2 ∷ Answer.Live 3 ∷ []) ≡ 2 ∷ 1 ∷ 1 ∷ 1 ∷ 1 ∷ []
+  pub counted :
+      map (λ a. refusals (a ∷ Answer.Refused 1 ∷ [])) (Answer.Refused 12 ∷ Answer.OtherMap ∷ Answer.Repeat ∷ Answer.Stored 2 ∷ Answer.Live 3 ∷ [])
+      ≡ 2 ∷ 1 ∷ 1 ∷ 1 ∷ 1 ∷ []
   -- ---- the lines
   pub versions : versionLines someLive ≡ text "cds=1\nmms=0\nvcm=none\ndcm=none\n"
-  pub versions-other : versionLines (record { map = 258; cds = someLive .dcm; mms = someLive .vcm; vcm = someLive .mms; dcm = someLive .cds }) ≡ text "cds=none\nmms=none\nvcm=0\ndcm=1\n"
+  pub versions-other :
+      versionLines (record { map = 258; cds = someLive .dcm; mms = someLive .vcm; vcm = someLive .mms; dcm = someLive .cds })
+      ≡ text "cds=none\nmms=none\nvcm=0\ndcm=1\n"
   pub headed : heading someLive 11 22 33 ≡ text "lineup=1\nmap=258\nsections=11\nrefused=22\n" ++ versionLines someLive ++ text "channels=33\n"
-  pub digital : channelLine 5 (Tuned.Digital 1 0 63000 3 someMode) ≡ text "channel=5 kind=digital hidden=1 path=0 khz=63000 program=3 system=2 inner=15 split=1 format=8 symbols=5056941\n" ∷ []
+  pub digital :
+      channelLine 5 (Tuned.Digital 1 0 63000 3 someMode)
+      ≡ text "channel=5 kind=digital hidden=1 path=0 khz=63000 program=3 system=2 inner=15 split=1 format=8 symbols=5056941\n" ∷ []
   pub analogue : channelLine 5 (Tuned.Analogue 0 1 63000 4 1) ≡ text "channel=5 kind=analogue hidden=0 path=1 khz=63000 standard=4 scrambled=1\n" ∷ []
   pub application : channelLine 5 (Tuned.Application 1 0 7) ≡ text "channel=5 kind=application hidden=1 path=0 application=7\n" ∷ []
   pub no-line : channelLine 5 (Tuned.Refused 17) ≡ []
   -- ascending, and none behind the last
   pub ascending : channelLines oddOnes 3 6 ≡ text "channel=7 kind=application hidden=0 path=0 application=14\n" ∷ []
-  pub ascending-all : channelLines oddOnes 3 7 ≡ text "channel=7 kind=application hidden=0 path=0 application=14\n" ∷ text "channel=9 kind=application hidden=0 path=0 application=18\n" ∷ []
+  pub ascending-all :
+      channelLines oddOnes 3 7
+      ≡ text "channel=7 kind=application hidden=0 path=0 application=14\n" ∷ text "channel=9 kind=application hidden=0 path=0 application=18\n" ∷ []
   -- fewer than two bytes
   pub refused : map lineup ([] ∷ hex "00" ∷ []) ≡ text "lineup=refused\n" ∷ text "lineup=refused\n" ∷ []
   -- ---- in pieces: what is whole is offered, what is not is kept
-  pub whole : map (λ bs. asNumber (isWhole bs)) ([] ∷ hex "C2 00" ∷ hex "C2 00 00" ∷ hex "C2 00 01" ∷ hex "C2 00 01 AA" ∷ hex "C2 00 01 AA BB" ∷ []) ≡ 0 ∷ 0 ∷ 1 ∷ 0 ∷ 1 ∷ 1 ∷ []
+  pub whole :
+      map (λ bs. asNumber (isWhole bs)) ([] ∷ hex "C2 00" ∷ hex "C2 00 00" ∷ hex "C2 00 01" ∷ hex "C2 00 01 AA" ∷ hex "C2 00 01 AA BB" ∷ [])
+      ≡ 0 ∷ 0 ∷ 1 ∷ 0 ∷ 1 ∷ 1 ∷ []
   pub whole-ones : wholes input ≡ hex "C2 00 01 AA" ∷ hex "C4 00 00" ∷ []
   pub not-whole : unfinished input ≡ hex "C2 00 05 11"
   pub last-one : map lastOf ([] ∷ hex "C2" ∷ []) ≡ [] ∷ (hex "C2" ∷ []) ∷ []

@@ -19,7 +19,9 @@ pub record SaidClauses : Type 0 where
   pub reads :
       map (λ t. readSaid (Read.Right (record { table = t; map = 258; revision = record { version = 5; number = 1; last = 3 }; records = 7; count = 2; closing = 19 }))) (Cds ∷ Mms ∷ Vcm ∷ Dcm ∷ [])
       ≡ map (λ t. record { refusal = 0; word = "reads right"; values = t ∷ 258 ∷ 5 ∷ 1 ∷ 3 ∷ 7 ∷ 2 ∷ 19 ∷ [] }) (0 ∷ 1 ∷ 2 ∷ 3 ∷ [])
-  pub asked : map askedSaid (Asked.Absent ∷ Asked.There 9 2 ∷ []) ≡ record { refusal = 0; word = "none"; values = [] } ∷ record { refusal = 0; word = "part"; values = 9 ∷ 2 ∷ [] } ∷ []
+  pub asked :
+      map askedSaid (Asked.Absent ∷ Asked.There 9 2 ∷ [])
+      ≡ record { refusal = 0; word = "none"; values = [] } ∷ record { refusal = 0; word = "part"; values = 9 ∷ 2 ∷ [] } ∷ []
   pub answers :
       map answerSaid (Answer.OtherMap ∷ Answer.Repeat ∷ Answer.Stored 2 ∷ Answer.Live 31 ∷ [])
       ≡ record { refusal = 0; word = "other map"; values = [] }
@@ -34,9 +36,15 @@ pub record SaidClauses : Type 0 where
   pub application : tunedSaid (Tuned.Application 1 0 7) ≡ record { refusal = 0; word = "application"; values = 7 ∷ 0 ∷ 1 ∷ [] }
   -- the four questions, in these terms
   pub to-section : sectionSaid plantDcm ≡ record { refusal = 0; word = "reads right"; values = 3 ∷ 258 ∷ 5 ∷ 0 ∷ 0 ∷ 10 ∷ 3 ∷ 13 ∷ [] }
-  pub to-descriptor : map (λ tag. askSaid tag plantDcm) (0x93 ∷ 0x94 ∷ []) ≡ record { refusal = 0; word = "part"; values = 15 ∷ 3 ∷ [] } ∷ record { refusal = 0; word = "none"; values = [] } ∷ []
-  pub to-offer : map (λ m. offerSaid (fresh m) 32768 plantDcm) (258 ∷ 259 ∷ []) ≡ record { refusal = 0; word = "live"; values = 5 ∷ [] } ∷ record { refusal = 0; word = "other map"; values = [] } ∷ []
-  pub to-channel : map (tuneSaid (fresh 0) (replicate 32768 0)) (3 ∷ 4096 ∷ []) ≡ record { refusal = 15; word = "refusal"; values = [] } ∷ record { refusal = 14; word = "refusal"; values = [] } ∷ []
+  pub to-descriptor :
+      map (λ tag. askSaid tag plantDcm) (0x93 ∷ 0x94 ∷ [])
+      ≡ record { refusal = 0; word = "part"; values = 15 ∷ 3 ∷ [] } ∷ record { refusal = 0; word = "none"; values = [] } ∷ []
+  pub to-offer :
+      map (λ m. offerSaid (fresh m) 32768 plantDcm) (258 ∷ 259 ∷ [])
+      ≡ record { refusal = 0; word = "live"; values = 5 ∷ [] } ∷ record { refusal = 0; word = "other map"; values = [] } ∷ []
+  pub to-channel :
+      map (tuneSaid (fresh 0) (replicate 32768 0)) (3 ∷ 4096 ∷ [])
+      ≡ record { refusal = 15; word = "refusal"; values = [] } ∷ record { refusal = 14; word = "refusal"; values = [] } ∷ []
 
 pub said-clauses : SaidClauses
 unfolding computed

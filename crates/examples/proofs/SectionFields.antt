@@ -6,7 +6,8 @@ use mathlib.Core.List.{List, [], _∷_, _++_, map}
 use Rattle.rules.specs.Descriptors.{Descriptor}
 use Rattle.rules.specs.Layout.{Numbered}
 use Rattle.rules.specs.Tables.{carriersZeros, carriersOf, carrierKhz, modeZeros, modeOf, vcmHeadZeros, vcmHeadOf, transportOf, channelZeros, channelOf, dcmHeadZeros, dcmHeadOf, rangeOf}
-use Rattle.rules.specs.Section.{carriers, modes, channels, ranges, right, content, withoutCrc, read}
+use Rattle.rules.specs.Section.{Structure, carriers, modes, channels, ranges, Reading, right, content, withoutCrc, read}
+use Rattle.rules.specs.declared.Table.{Table}
 use Rattle.rules.specs.declared.Table.the-variants.{Cds, Mms, Vcm, Dcm}
 use Rattle.rules.specs.declared.Carriers.{Carriers}
 use Rattle.rules.specs.declared.Mode.{Mode}
@@ -52,32 +53,64 @@ revision5 = record { version = 5; number = 0; last = 0 }
 abbrev closing5 : List Descriptor
 closing5 = record { tag = 0x93; body = hex "E5 00 00" } ∷ []
 
+-- a section of version 5, 0 of 0, with nothing else in its closing list
+abbrev saidAs : Table → (map : ℕ) → Structure → Reading
+saidAs t map structure =
+    right (record { table = t; map = map; structure = structure; closing = closing5; revision = revision5 })
+
 pub record SectionFields : Type 0 where
   -- ---- what a section reads as: a plant with another value in every field, units mixed both ways
-  pub reads-carriers : read (content (withoutCrc plantCds)) ≡ right (record { table = Cds; map = 0; structure = carriers 3 plantCarriers; closing = closing5; revision = revision5 })
-  pub reads-modes : read (content (withoutCrc plantMms)) ≡ right (record { table = Mms; map = 0; structure = modes 7 plantModes; closing = closing5; revision = revision5 })
-  pub reads-channels : read (content (withoutCrc plantVcm)) ≡ right (record { table = Vcm; map = 0x0102; structure = channels (record { included = 1; splice = 1; time = 0x12345678; count = 3 }) plantChannels; closing = closing5; revision = revision5 })
-  pub reads-ranges : read (content (withoutCrc plantDcm)) ≡ right (record { table = Dcm; map = 0x0102; structure = ranges (record { first = 0x122; length = 3 }) plantRanges; closing = closing5; revision = revision5 })
+  pub reads-carriers :
+      read (content (withoutCrc plantCds))
+      ≡ saidAs Cds 0 (carriers 3 plantCarriers)
+  pub reads-modes :
+      read (content (withoutCrc plantMms))
+      ≡ saidAs Mms 0 (modes 7 plantModes)
+  pub reads-channels :
+      read (content (withoutCrc plantVcm))
+      ≡ saidAs Vcm 0x0102 (channels (record { included = 1; splice = 1; time = 0x12345678; count = 3 }) plantChannels)
+  pub reads-ranges :
+      read (content (withoutCrc plantDcm))
+      ≡ saidAs Dcm 0x0102 (ranges (record { first = 0x122; length = 3 }) plantRanges)
   -- the version is the five low bits, number and last all bits of their bytes; three bytes more are passed over
-  pub reads-revision : read (content (hex "C2 30 00 00 01 00 01 80 00 93 06 DF FE FF 01 02 03")) ≡ right (record { table = Cds; map = 0; structure = carriers 1 []; closing = record { tag = 0x80; body = [] } ∷ record { tag = 0x93; body = hex "DF FE FF 01 02 03" } ∷ []; revision = record { version = 31; number = 254; last = 255 } })
+  pub reads-revision :
+      read (content (hex "C2 30 00 00 01 00 01 80 00 93 06 DF FE FF 01 02 03"))
+      ≡ right
+      (record {
+        table = Cds;
+        map = 0;
+        structure = carriers 1 [];
+        closing = record { tag = 0x80; body = [] } ∷ record { tag = 0x93; body = hex "DF FE FF 01 02 03" } ∷ [];
+        revision = record { version = 31; number = 254; last = 255 };
+      })
   -- fields of ones: each has all its bits, and no other
-  pub ones-carriers : carriersOf (hex "FF FF FF FF FF") ≡ record { count = 255; spacing = record { unit = 1; number = 16383 }; first = record { unit = 1; number = 32767 } }
+  pub ones-carriers :
+      carriersOf (hex "FF FF FF FF FF")
+      ≡ record { count = 255; spacing = record { unit = 1; number = 16383 }; first = record { unit = 1; number = 32767 } }
   pub ones-mode : modeOf (hex "FF FF FF FF FF FF") ≡ record { system = 15; inner = 15; split = 1; format = 31; symbols = 268435455 }
   pub ones-vcm : vcmHeadOf (hex "FF FF FF FF FF FF FF") ≡ record { included = 1; splice = 1; time = 4294967295; count = 255 }
   pub ones-dcm : dcmHeadOf (hex "FF FF FF") ≡ record { first = 4095; length = 127 }
-  pub ones-channel : channelOf (hex "FF FF FF FF FF FF FF FF FF") ≡ record { number = 4095; application = 1; path = 1; kind = 15; source = 65535; carrier = 255; signal = Analogue 1 15 }
-  pub ones-digital : channelOf (hex "FF FF EF FF FF FF FF FF FF") ≡ record { number = 4095; application = 1; path = 1; kind = 15; source = 65535; carrier = 255; signal = Digital 65535 255 }
+  pub ones-channel :
+      channelOf (hex "FF FF FF FF FF FF FF FF FF")
+      ≡ record { number = 4095; application = 1; path = 1; kind = 15; source = 65535; carrier = 255; signal = Analogue 1 15 }
+  pub ones-digital :
+      channelOf (hex "FF FF EF FF FF FF FF FF FF")
+      ≡ record { number = 4095; application = 1; path = 1; kind = 15; source = 65535; carrier = 255; signal = Digital 65535 255 }
   pub ones-range : rangeOf (hex "FF") ≡ record { defined = 1; count = 127 }
   -- "each in its own unit": the spacing in 10 kHz and the frequency in 125 kHz, and the other way round
   pub units : map (λ k. carrierKhz (carriersOf (hex "02 02 58 81 C8")) k) (0 ∷ 1 ∷ 2 ∷ []) ≡ 57000 ∷ 63000 ∷ 69000 ∷ []
   pub units-other : map (λ k. carrierKhz (carriersOf (hex "03 80 30 17 70")) k) (0 ∷ 1 ∷ 2 ∷ []) ≡ 60000 ∷ 66000 ∷ 72000 ∷ []
   -- each bit and each zero bit over all values of its byte: a bit has the second half of its values, zero bits leave so many
-  pub every-spacing : (sweep 256 (λ b. carriersOf (0 ∷ b ∷ []) .spacing .unit) ≡ halves 128 1) × (sweep 256 (λ b. asNumber (carriersZeros (0 ∷ b ∷ []))) ≡ holding 64 64 2)
+  pub every-spacing :
+      (sweep 256 (λ b. carriersOf (0 ∷ b ∷ []) .spacing .unit) ≡ halves 128 1)
+      × (sweep 256 (λ b. asNumber (carriersZeros (0 ∷ b ∷ []))) ≡ holding 64 64 2)
   pub every-frequency : sweep 256 (λ b. carriersOf (0 ∷ 0 ∷ 0 ∷ b ∷ []) .first .unit) ≡ halves 128 1
   pub every-mode : (sweep 256 (λ b. modeOf (0 ∷ b ∷ []) .split) ≡ halves 128 1) × (sweep 256 (λ b. asNumber (modeZeros (0 ∷ b ∷ []))) ≡ holding 32 96 2)
   pub every-symbols : sweep 256 (λ b. asNumber (modeZeros (0 ∷ 0 ∷ b ∷ []))) ≡ holding 16 240 1
   pub every-included : (sweep 256 (λ b. vcmHeadOf (b ∷ []) .included) ≡ halves 32 4) × (answered (λ b. asNumber (vcmHeadZeros (b ∷ []))) 1 256 ≡ 0 ∷ 32 ∷ [])
-  pub every-splice : (sweep 256 (λ b. vcmHeadOf (0 ∷ b ∷ []) .splice) ≡ halves 128 1) × (answered (λ b. asNumber (vcmHeadZeros (0 ∷ b ∷ []))) 1 256 ≡ 0 ∷ 128 ∷ [])
+  pub every-splice :
+      (sweep 256 (λ b. vcmHeadOf (0 ∷ b ∷ []) .splice) ≡ halves 128 1)
+      × (answered (λ b. asNumber (vcmHeadZeros (0 ∷ b ∷ []))) 1 256 ≡ 0 ∷ 128 ∷ [])
   pub every-number : sweep 256 (λ b. asNumber (channelZeros (b ∷ []))) ≡ holding 16 240 1
   pub every-flags :
       (sweep 256 (λ b. channelOf (0 ∷ 0 ∷ b ∷ []) .application) ≡ halves 128 1)

@@ -186,24 +186,78 @@ pub record SectionRefusals : Type 0 where
   pub record-tags : sweep 256 (λ tag. body (hex "C2 30 00 00 01 01 01 01 00 00 15 18 01" ++ (tag ∷ hex "00 93 03 E5 00 00"))) ≡ replicate 256 0
   -- ---- the order front to back, each thing whole: 8 before 9 before 10, and a later one is not looked at
   -- the header of 0xC2: medium and subtype not there, 9 of byte 1, 9 of byte 3, first index 0 before the first record
-  pub order-header : map body (hex "C2 40 00 20 00 00" ∷ hex "C2 40 00 00 00 00 01" ∷ hex "C2 00 00 20 00 00 01" ∷ hex "C2 00 00 00 00 00 01" ∷ hex "C2 30 00 00 00 01 01 01 40 00 15 18 00" ∷ []) ≡ 8 ∷ 9 ∷ 9 ∷ 10 ∷ 10 ∷ []
-  -- the header of 0xC4: medium and subtype not there; there and wrong, the map number cut; right, and the map number cut; then its zero bits, before a head that is cut
-  pub order-map : map body (hex "C4 70 00 20" ∷ hex "C4 70 00 20 20" ∷ hex "C4 70 00 20 10 00" ∷ hex "C4 70 00 00 00" ∷ hex "C4 30 00 20 00 00" ∷ hex "C4 70 00 00 00 00 00" ∷ hex "C4 70 00 00 01 00 00 00 03" ∷ []) ≡ 8 ∷ 7 ∷ 7 ∷ 8 ∷ 8 ∷ 9 ∷ 9 ∷ []
+  pub order-header :
+      map body
+      (hex "C2 40 00 20 00 00"
+      ∷ hex "C2 40 00 00 00 00 01"
+      ∷ hex "C2 00 00 20 00 00 01"
+      ∷ hex "C2 00 00 00 00 00 01"
+      ∷ hex "C2 30 00 00 00 01 01 01 40 00 15 18 00"
+      ∷ [])
+      ≡ 8 ∷ 9 ∷ 9 ∷ 10 ∷ 10 ∷ []
+  -- the header of 0xC4: medium and subtype not there; there and wrong, the map number cut; right, and the map number cut; then its zero
+  -- bits, before a head that is cut
+  pub order-map :
+      map body
+      (hex "C4 70 00 20"
+      ∷ hex "C4 70 00 20 20"
+      ∷ hex "C4 70 00 20 10 00"
+      ∷ hex "C4 70 00 00 00"
+      ∷ hex "C4 30 00 20 00 00"
+      ∷ hex "C4 70 00 00 00 00 00"
+      ∷ hex "C4 70 00 00 01 00 00 00 03"
+      ∷ [])
+      ≡ 8 ∷ 7 ∷ 7 ∷ 8 ∷ 8 ∷ 9 ∷ 9 ∷ []
   -- a record of each kind that is short, has a zero bit set and a value out of its limits; then not short; then with its zero bits 0
-  pub order-carriers : map (λ r. body (hex "C2 30 00 00 01 01 01" ++ r)) (hex "00 40 00 00" ∷ hex "00 40 00 00 00" ∷ hex "00 00 00 00 00" ∷ []) ≡ 8 ∷ 9 ∷ 10 ∷ []
-  pub order-modes : map (λ r. body (hex "C2 30 00 00 01 01 02" ++ r)) (hex "10 60 F0 00 00" ∷ hex "10 60 F0 00 00 00" ∷ hex "10 00 00 00 00 00" ∷ []) ≡ 8 ∷ 9 ∷ 10 ∷ []
-  pub order-channels : map (λ r. body (hex "C4 30 00 00 00 00 00 00 00 00 00 00 00 01" ++ r)) (hex "F0 00 5F 00 00 00 7F FF" ∷ hex "F0 00 5F 00 00 00 7F FF FF" ∷ hex "00 00 1F 00 00 00 0F 00 00" ∷ []) ≡ 8 ∷ 9 ∷ 10 ∷ []
-  pub order-ranges : map (λ r. body (hex "C4 30 00 00 01 00 00" ++ r)) (hex "F0 00" ∷ hex "F0 00 81" ∷ hex "00 00 01" ∷ hex "00 00 01 00" ∷ []) ≡ 8 ∷ 9 ∷ 8 ∷ 10 ∷ []
+  pub order-carriers :
+      map (λ r. body (hex "C2 30 00 00 01 01 01" ++ r)) (hex "00 40 00 00" ∷ hex "00 40 00 00 00" ∷ hex "00 00 00 00 00" ∷ [])
+      ≡ 8 ∷ 9 ∷ 10 ∷ []
+  pub order-modes :
+      map (λ r. body (hex "C2 30 00 00 01 01 02" ++ r)) (hex "10 60 F0 00 00" ∷ hex "10 60 F0 00 00 00" ∷ hex "10 00 00 00 00 00" ∷ [])
+      ≡ 8 ∷ 9 ∷ 10 ∷ []
+  pub order-channels :
+      map (λ r. body (hex "C4 30 00 00 00 00 00 00 00 00 00 00 00 01" ++ r))
+      (hex "F0 00 5F 00 00 00 7F FF"
+      ∷ hex "F0 00 5F 00 00 00 7F FF FF"
+      ∷ hex "00 00 1F 00 00 00 0F 00 00"
+      ∷ [])
+      ≡ 8 ∷ 9 ∷ 10 ∷ []
+  pub order-ranges :
+      map (λ r. body (hex "C4 30 00 00 01 00 00" ++ r)) (hex "F0 00" ∷ hex "F0 00 81" ∷ hex "00 00 01" ∷ hex "00 00 01 00" ∷ [])
+      ≡ 8 ∷ 9 ∷ 8 ∷ 10 ∷ []
   -- a descriptor count that isn't there; fewer descriptors than it says; one that ends at the CRC, and one that runs into it by a byte
-  pub order-lists : map (λ r. body (hex "C2 30 00 00 01 01 01 01 00 00 15 18" ++ r)) ([] ∷ hex "01" ∷ hex "01 80" ∷ hex "01 80 01" ∷ hex "01 80 01 FF" ∷ hex "02 80 01 FF" ∷ hex "01 80 01 FF 93 03 E5 00 00" ∷ []) ≡ 8 ∷ 8 ∷ 8 ∷ 8 ∷ 11 ∷ 8 ∷ 0 ∷ []
+  pub order-lists :
+      map (λ r. body (hex "C2 30 00 00 01 01 01 01 00 00 15 18" ++ r))
+      ([]
+      ∷ hex "01"
+      ∷ hex "01 80"
+      ∷ hex "01 80 01"
+      ∷ hex "01 80 01 FF"
+      ∷ hex "02 80 01 FF"
+      ∷ hex "01 80 01 FF 93 03 E5 00 00"
+      ∷ [])
+      ≡ 8 ∷ 8 ∷ 8 ∷ 8 ∷ 11 ∷ 8 ∷ 0 ∷ []
   -- descriptors-included: without it no count stands behind a channel record, with it one does
-  pub order-included : map (λ head. body (head ++ hex "00 00 00 00 00 01 00 03 00 12 34 02 00 03 01 00 93 03 E5 00 00")) (hex "C4 30 00 00 00 00 00 20" ∷ hex "C4 30 00 00 00 00 00 00" ∷ []) ≡ 0 ∷ 8 ∷ []
+  pub order-included :
+      map (λ head. body (head ++ hex "00 00 00 00 00 01 00 03 00 12 34 02 00 03 01 00 93 03 E5 00 00"))
+      (hex "C4 30 00 00 00 00 00 20"
+      ∷ hex "C4 30 00 00 00 00 00 00"
+      ∷ [])
+      ≡ 0 ∷ 8 ∷ []
   -- ---- what the reader answers: the refusal, or the head, of each table, with descriptors in front of the closing list and in it
   pub head-refused : readAs (hex "C2 30 0F") (readSection (hex "C2 30 0F")) ≡ Read.Refused 3
-  pub head-carriers : readAs plantCds (readSection plantCds) ≡ Read.Right (record { table = Cds; map = 0; revision = revision5; records = 7; count = 2; closing = 19 })
-  pub head-modes : readAs plantMms (readSection plantMms) ≡ Read.Right (record { table = Mms; map = 0; revision = revision5; records = 7; count = 2; closing = 21 })
-  pub head-channels : readAs plantVcm (readSection plantVcm) ≡ Read.Right (record { table = Vcm; map = 0x0102; revision = revision5; records = 14; count = 3; closing = 46 })
-  pub head-ranges : readAs plantDcm (readSection plantDcm) ≡ Read.Right (record { table = Dcm; map = 0x0102; revision = revision5; records = 10; count = 3; closing = 13 })
+  pub head-carriers :
+      readAs plantCds (readSection plantCds)
+      ≡ Read.Right (record { table = Cds; map = 0; revision = revision5; records = 7; count = 2; closing = 19 })
+  pub head-modes :
+      readAs plantMms (readSection plantMms)
+      ≡ Read.Right (record { table = Mms; map = 0; revision = revision5; records = 7; count = 2; closing = 21 })
+  pub head-channels :
+      readAs plantVcm (readSection plantVcm)
+      ≡ Read.Right (record { table = Vcm; map = 0x0102; revision = revision5; records = 14; count = 3; closing = 46 })
+  pub head-ranges :
+      readAs plantDcm (readSection plantDcm)
+      ≡ Read.Right (record { table = Dcm; map = 0x0102; revision = revision5; records = 10; count = 3; closing = 13 })
   -- ---- the descriptor question: the body of the first of a tag, behind others, as a part of the section
   pub asked : map (λ tag. ask tag askedSection) (0x93 ∷ 0x80 ∷ 0x81 ∷ 0x82 ∷ []) ≡ Asked.There 13 4 ∷ Asked.There 9 2 ∷ Asked.There 19 0 ∷ Asked.Absent ∷ []
   pub asked-parts : map (λ tag. partOf askedSection (ask tag askedSection)) (0x93 ∷ 0x80 ∷ 0x81 ∷ 0x82 ∷ []) ≡ hex "E5 00 00 FF" ∷ hex "AA BB" ∷ [] ∷ [] ∷ []

@@ -23,11 +23,11 @@ use Rattle.rules.specs.declared.Tuned.the-variants as Tuned
 use Rattle.rules.proofs.Hex.{hex}
 use Rattle.examples.proofs.Sweeps.{swept, answered, counting, asNumber}
 use Rattle.rules.proofs.Computed.{computed}
-use Rattle.examples.proofs.HoldingClauses.{live, holding, state, revised}
+use Rattle.examples.proofs.HoldingClauses.{live, holding, allTables, revised}
 
 -- version 5 with last 0 live in half 0, of each table
 abbrev pub live5 : State
-live5 = state (holding (live 1 5 0) noneGathered 0) (holding (live 1 5 0) noneGathered 0) (holding (live 1 5 0) noneGathered 0) (holding (live 1 5 0) noneGathered 0)
+live5 = allTables (holding (live 1 5 0) noneGathered 0)
 
 -- ---- plants by their records; the mode of C12 has index 1
 
@@ -82,16 +82,30 @@ pub record TuningClauses : Type 0 where
   pub covered : answered (λ n. asNumber (covers 3 2 n)) 1 16 ≡ 3 ∷ 4 ∷ []
   -- 17: the first range that covers the channel says so
   pub seventeen : map (λ n. asNumber (defined (rangeAt 7 (hex "83") ++ rangeAt 8 (hex "04")) n)) (counting 6 7) ≡ 0 ∷ 1 ∷ 1 ∷ 1 ∷ 0 ∷ 0 ∷ 0 ∷ []
-  pub seventeen-order : map (lookUp (small (eight 3 1))) (6 ∷ 7 ∷ 8 ∷ 9 ∷ 10 ∷ []) ≡ Tuned.Refused 17 ∷ Tuned.Refused 18 ∷ Tuned.Digital 0 0 57000 3 c12 ∷ Tuned.Refused 18 ∷ Tuned.Refused 17 ∷ []
+  pub seventeen-order :
+      map (lookUp (small (eight 3 1))) (6 ∷ 7 ∷ 8 ∷ 9 ∷ 10 ∷ [])
+      ≡ Tuned.Refused 17 ∷ Tuned.Refused 18 ∷ Tuned.Digital 0 0 57000 3 c12 ∷ Tuned.Refused 18 ∷ Tuned.Refused 17 ∷ []
   -- 19: reference 0, also where a record has index 0, and no carrier; each carrier of a record
-  pub nineteen : map (λ carrier. lookUp (small (eightAnalogue carrier)) 8) (0 ∷ 2 ∷ 3 ∷ 4 ∷ 5 ∷ 6 ∷ []) ≡ Tuned.Refused 19 ∷ Tuned.Refused 19 ∷ Tuned.Analogue 0 0 57000 2 0 ∷ Tuned.Analogue 0 0 63000 2 0 ∷ Tuned.Analogue 0 0 69000 2 0 ∷ Tuned.Refused 19 ∷ []
-  pub nineteen-zero : lookUp (record { carriers = carriersAt 0 (hex "03 80 30 81 C8"); modes = []; channels = eightAnalogue 0; ranges = rangeAt 7 (hex "83") }) 8 ≡ Tuned.Refused 19
+  pub nineteen :
+      map (λ carrier. lookUp (small (eightAnalogue carrier)) 8) (0 ∷ 2 ∷ 3 ∷ 4 ∷ 5 ∷ 6 ∷ [])
+      ≡ Tuned.Refused 19
+      ∷ Tuned.Refused 19
+      ∷ Tuned.Analogue 0 0 57000 2 0
+      ∷ Tuned.Analogue 0 0 63000 2 0
+      ∷ Tuned.Analogue 0 0 69000 2 0
+      ∷ Tuned.Refused 19
+      ∷ []
+  pub nineteen-zero :
+      lookUp (record { carriers = carriersAt 0 (hex "03 80 30 81 C8"); modes = []; channels = eightAnalogue 0; ranges = rangeAt 7 (hex "83") }) 8
+      ≡ Tuned.Refused 19
   pub nineteen-first : lookUp (small (eight 0 0)) 8 ≡ Tuned.Refused 19
   -- 20: both ends, by one kHz
   pub twenty : map (λ khz. asNumber (inReach khz)) (53999 ∷ 54000 ∷ 54001 ∷ 1001999 ∷ 1002000 ∷ 1002001 ∷ []) ≡ 0 ∷ 1 ∷ 1 ∷ 1 ∷ 1 ∷ 0 ∷ []
   -- 21: digital alone, reference 0, also where a record has index 0, and no record
   pub twenty-one : map (λ mode. lookUp (small (eight 3 mode)) 8) (0 ∷ 1 ∷ 2 ∷ []) ≡ Tuned.Refused 21 ∷ Tuned.Digital 0 0 57000 3 c12 ∷ Tuned.Refused 21 ∷ []
-  pub twenty-one-zero : lookUp (record { carriers = carriersAt 3 (hex "03 80 30 81 C8"); modes = record { index = 0; what = c12 } ∷ []; channels = eight 3 0; ranges = rangeAt 7 (hex "83") }) 8 ≡ Tuned.Refused 21
+  pub twenty-one-zero :
+      lookUp (record { carriers = carriersAt 3 (hex "03 80 30 81 C8"); modes = record { index = 0; what = c12 } ∷ []; channels = eight 3 0; ranges = rangeAt 7 (hex "83") }) 8
+      ≡ Tuned.Refused 21
   -- an application channel needs no carrier; path and hidden of all three kinds
   pub kinds : map (λ flags. lookUp (small (channelIs (hex "00 08" ++ (flags ∷ hex "12 34 03 00 00 01")))) 8) (0x00 ∷ 0x01 ∷ 0x20 ∷ 0x21 ∷ 0x10 ∷ 0x11 ∷ 0x30 ∷ 0x80 ∷ 0x81 ∷ 0xA0 ∷ 0x90 ∷ [])
       ≡ Tuned.Digital 0 0 57000 0 c12
