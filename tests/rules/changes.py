@@ -8,6 +8,7 @@ Growth.antt what its relations ask; signatures, patterns, comments and imports s
     operand      of && and || one side alone
     turned       `not` left out
     tested       what cond, unless or needs tests taken for true, and for false
+    order        two checks that follow each other changed about
     operator     + for -, * for +, / for % and the other way round, ^ for *
     field        a field of a struct for its neighbour of the same type
     argument     a definition's argument for the next one of its type
@@ -126,6 +127,19 @@ def test_changes(tokens, at):
         yield "tested", tokens[at + 1].start, tokens[end - 1].end, truth
 
 
+def order_changes(text, tokens, at):
+    """A check with its refusal, and the one behind it, changed about."""
+    first = atom_end(tokens, at + 1)
+    second = atom_end(tokens, first)
+    inner = second + 1
+    if inner < len(tokens) and tokens[second].text == "(" and tokens[inner].text == tokens[at].text:
+        inner_end = atom_end(tokens, atom_end(tokens, inner + 1))
+        one = text[tokens[at + 1].start : tokens[second - 1].end]
+        other = text[tokens[inner + 1].start : tokens[inner_end - 1].end]
+        between = text[tokens[second - 1].end : tokens[inner + 1].start]
+        yield "order", tokens[at + 1].start, tokens[inner_end - 1].end, other + between + one
+
+
 def equal_changes(text, tokens, at):
     """eqb a b loosened to leb a b and to leb b a."""
     first = atom_end(tokens, at + 1)
@@ -170,6 +184,7 @@ def token_changes(text, tokens, at, structs, arguments):
         yield "turned", token.start, token.end, ""
     elif word in TESTED:
         yield from test_changes(tokens, at)
+        yield from order_changes(text, tokens, at)
     elif word in OPERATORS:
         yield "operator", token.start, token.end, OPERATORS[word]
     elif word.startswith(".") and len(word) > 1:

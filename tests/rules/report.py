@@ -9,6 +9,7 @@ KINDS = {
     "operand": "one side of `&&` or `||` left out",
     "turned": "`not` left out",
     "tested": "a test taken for true, and for false",
+    "order": "two checks that follow each other changed about",
     "operator": "another operation: + and -, * and +, / and %, ^ and *",
     "field": "a field for its neighbour of the same type",
     "argument": "an argument for the next one of its type",

@@ -13,7 +13,7 @@ use Rattle.rules.specs.declared.Table.the-variants.{Cds, Vcm, Dcm}
 use Rattle.rules.proofs.Hex.{hex}
 use Rattle.rules.proofs.Truths.{differ, unlike, not-most}
 use Rattle.rules.proofs.Computed.{computed}
-use Rattle.examples.proofs.Growths.{d, p, carriersPlain, carriersGrown}
+use Rattle.examples.proofs.Growths.{d, p, carriersPlain}
 
 -- parts of a section: byte 1, what stands in front of the records, the records
 abbrev parts : (number flags : ℕ) → (front : List ℕ) → List Piece → Parts

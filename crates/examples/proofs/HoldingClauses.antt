@@ -1,12 +1,10 @@
 -- Document 01, "Holding and going live", and refusals 1, 2, 12 and 13: every clause on both sides of its border, computed.
 use Prim.Native.Nat.{ℕ, _*_}
 use mathlib.Core.Path.{_≡_, refl}
-use mathlib.Core.Bool.{true, false}
 use mathlib.Core.List.{List, [], _∷_, _++_, map}
-use lib.ListN.{length, take, replicate}
-use Rattle.rules.specs.Bytes.{from}
+use lib.ListN.{length, replicate}
 use Rattle.rules.specs.Section.{carriers, Content, right, wrong}
-use Rattle.rules.specs.Holding.{placeOf, storeSize, sectionAt, put, holdingOf, with, liveAt, gatheredAt, noneLive, noneGathered, freshHolding, fresh, holds, allOf, liveFormed, gatheredFormed, holdingFormed, wellFormed, stepOf, offeredAs, offered, takesIn, storeAfter, Box, answerTo, boxAfter}
+use Rattle.rules.specs.Holding.{placeOf, storeSize, sectionAt, put, holdingOf, with, liveAt, gatheredAt, noneLive, noneGathered, freshHolding, fresh, holds, allOf, liveFormed, gatheredFormed, holdingFormed, stepOf, offeredAs, offered, takesIn, storeAfter, answerTo, boxAfter}
 use Rattle.rules.specs.declared.Table.{Table}
 use Rattle.rules.specs.declared.Table.the-variants.{Cds, Mms, Vcm, Dcm}
 use Rattle.rules.specs.declared.LiveVersion.{LiveVersion}
@@ -14,7 +12,6 @@ use Rattle.rules.specs.declared.GatheredVersion.{GatheredVersion}
 use Rattle.rules.specs.declared.Holding.{Holding}
 use Rattle.rules.specs.declared.Revision.{Revision}
 use Rattle.rules.specs.declared.State.{State}
-use Rattle.rules.specs.declared.Answer.{Answer}
 use Rattle.rules.specs.declared.Answer.the-variants.{Refused, OtherMap, Repeat, Stored, Live}
 use Rattle.rules.proofs.Hex.{hex}
 use Rattle.examples.proofs.Sweeps.{swept, answered, sweep, counting, asNumber}

@@ -1,19 +1,18 @@
 -- Document 01, "From number to tuner", through `tune` of live boxes, computed: C2 to C4, a plant with another value in every field, two
--- sections of one table, and
--- refusals 1, 2, 14, 15 and 16 in their order.
+-- sections of one table, and refusals 1, 2, 14, 15 and 16 in their order.
 use Prim.Native.Nat.{ℕ}
 use mathlib.Core.Path.{_≡_, refl}
 use mathlib.Core.List.{List, [], _∷_, map}
 use lib.ListN.{take}
 use Rattle.rules.specs.Holding.{put, noneLive, noneGathered, freshHolding, with}
-use Rattle.rules.specs.Search.{first, sections}
-use Rattle.rules.specs.Tuning.{every, tune}
+use Rattle.rules.specs.Tuning.{tune}
 use Rattle.rules.specs.declared.Table.the-variants.{Cds, Mms, Vcm, Dcm}
 use Rattle.rules.specs.declared.State.{State}
 use Rattle.rules.specs.declared.Tuned.{Tuned}
 use Rattle.rules.specs.declared.Tuned.the-variants as Tuned
 use Rattle.rules.proofs.Hex.{hex}
 use Rattle.rules.proofs.Computed.{computed}
+use Rattle.rules.proofs.Examples.{bordersCds, bordersMms, bordersVcm, bordersDcm}
 use Rattle.examples.proofs.Plants.{plantCds, plantMms, plantVcm, plantDcm}
 use Rattle.examples.proofs.HoldingClauses.{live, holding, emptyStore}
 use Rattle.examples.proofs.TuningClauses.{c12, live5}
@@ -32,12 +31,7 @@ abbrev pub borderState : State
 borderState = record { map = 0; cds = live5 .cds; mms = live5 .mms; vcm = live5 .vcm; dcm = live5 .dcm }
 
 abbrev pub borderStore : List ℕ
-borderStore =
-    storeOf
-    (hex "C2 30 25 00 02 04 01 01 00 00 15 18 00 01 00 00 15 17 00 01 00 00 9F 50 00 01 00 00 9F 51 00 93 03 E5 00 00 4A F4 C4 0A")
-    (hex "C2 30 14 00 01 01 02 2F 08 00 4D 29 AD 00 93 03 E5 00 00 CE 5B B1 EE")
-    (hex "C4 30 38 00 00 00 00 00 00 00 00 00 00 04 00 02 00 12 34 02 00 03 01 00 03 00 12 34 03 00 03 01 00 04 00 12 34 04 00 03 01 00 05 00 12 34 05 00 03 01 93 03 E5 00 00 A9 F1 EE 35")
-    (hex "C4 30 11 00 01 00 00 00 02 01 84 93 03 E5 00 00 0C B9 F5 D9")
+borderStore = storeOf bordersCds bordersMms bordersVcm bordersDcm
 
 -- two sections of carriers, version 6: carrier 2 at 54,000 kHz in section 0; carrier 2 at 57,000 and carrier 3 at 60,000 in section 1; for
 -- channels 2 and 3 of map 0

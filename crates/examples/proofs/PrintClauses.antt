@@ -7,10 +7,9 @@ use mathlib.Core.List.{List, [], _∷_, _++_, map}
 use lib.ListN.{replicate}
 use lib.Dec.{eqb}
 use Rattle.rules.specs.Holding.{noneLive, noneGathered, fresh}
-use Rattle.rules.specs.Lineup.{text, decimal, field, line, sectionsOf, freshBox, refusals, version, versionLines, channelLine, channelLines, heading, lineup}
+use Rattle.rules.specs.Lineup.{text, decimal, field, line, sectionsOf, freshBox, refusals, versionLines, channelLine, channelLines, heading, lineup}
 use Rattle.rules.specs.Feeding.{isWhole, wholes, unfinished, lastOf, Intake, begin, feed, feedAll, finish}
 use Rattle.rules.specs.declared.Mode.{Mode}
-use Rattle.rules.specs.declared.Holding.{Holding}
 use Rattle.rules.specs.declared.State.{State}
 use Rattle.rules.specs.declared.Answer.the-variants as Answer
 use Rattle.rules.specs.declared.Tuned.{Tuned}

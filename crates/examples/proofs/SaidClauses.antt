@@ -3,13 +3,12 @@ use mathlib.Core.Path.{_≡_, refl}
 use mathlib.Core.List.{[], _∷_, map}
 use lib.ListN.{replicate}
 use Rattle.rules.specs.Holding.{fresh}
-use Rattle.rules.specs.Said.{Said, readSaid, askedSaid, answerSaid, tunedSaid, sectionSaid, askSaid, offerSaid, tuneSaid}
+use Rattle.rules.specs.Said.{readSaid, askedSaid, answerSaid, tunedSaid, sectionSaid, askSaid, offerSaid, tuneSaid}
 use Rattle.rules.specs.declared.Table.the-variants.{Cds, Mms, Vcm, Dcm}
 use Rattle.rules.specs.declared.Read.the-variants as Read
 use Rattle.rules.specs.declared.Asked.the-variants as Asked
 use Rattle.rules.specs.declared.Answer.the-variants as Answer
 use Rattle.rules.specs.declared.Tuned.the-variants as Tuned
-use Rattle.rules.proofs.Hex.{hex}
 use Rattle.rules.proofs.Computed.{computed}
 use Rattle.examples.proofs.Plants.{plantDcm}
 

@@ -7,7 +7,7 @@ use mathlib.Core.Path.{_≡_, refl}
 use mathlib.Core.List.{List, [], _∷_, _++_, map}
 use lib.ListN.{length, take, replicate}
 use Rattle.rules.specs.Layout.{records}
-use Rattle.rules.specs.Section.{carriers, ranges, right, content, read, checkOf, check, readSection, readAs, ask, partOf}
+use Rattle.rules.specs.Section.{content, read, checkOf, check, readSection, readAs, ask, partOf}
 use Rattle.rules.specs.declared.Table.the-variants.{Cds, Mms, Vcm, Dcm}
 use Rattle.rules.specs.declared.Revision.{Revision}
 use Rattle.rules.specs.declared.Read.the-variants as Read

@@ -8,7 +8,7 @@ use mathlib.Core.Option.{none, some}
 use lib.Dec.{eqb}
 use Rattle.rules.specs.Layout.{Numbered}
 use Rattle.rules.specs.Tables.{carriersOf, channelOf, rangeOf}
-use Rattle.rules.specs.Holding.{noneGathered, with}
+use Rattle.rules.specs.Holding.{noneGathered}
 use Rattle.rules.specs.Search.{first, sections}
 use Rattle.rules.specs.Tuning.{Plant, isSection, every, covers, inReach, defined, lookUp}
 use Rattle.rules.specs.declared.Table.{Table}

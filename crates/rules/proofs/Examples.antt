@@ -43,14 +43,21 @@ c1Content closing revision =
       revision = revision;
     }
 
--- the records of C2, C3 and C4 as carriers 2 to 5 of one section, for channels 2 to 5
+-- the records of C2, C3 and C4 as carriers 2 to 5 of one section, for channels 2 to 5: a section of each table
+abbrev pub bordersCds : List ℕ
+bordersCds = hex "C2 30 25 00 02 04 01 01 00 00 15 18 00 01 00 00 15 17 00 01 00 00 9F 50 00 01 00 00 9F 51 00 93 03 E5 00 00 4A F4 C4 0A"
+
+abbrev pub bordersMms : List ℕ
+bordersMms = hex "C2 30 14 00 01 01 02 2F 08 00 4D 29 AD 00 93 03 E5 00 00 CE 5B B1 EE"
+
+abbrev pub bordersVcm : List ℕ
+bordersVcm = hex "C4 30 38 00 00 00 00 00 00 00 00 00 00 04 00 02 00 12 34 02 00 03 01 00 03 00 12 34 03 00 03 01 00 04 00 12 34 04 00 03 01 00 05 00 12 34 05 00 03 01 93 03 E5 00 00 A9 F1 EE 35"
+
+abbrev pub bordersDcm : List ℕ
+bordersDcm = hex "C4 30 11 00 01 00 00 00 02 01 84 93 03 E5 00 00 0C B9 F5 D9"
+
 abbrev borders : Plant
-borders =
-    said
-    (hex "C2 30 25 00 02 04 01 01 00 00 15 18 00 01 00 00 15 17 00 01 00 00 9F 50 00 01 00 00 9F 51 00 93 03 E5 00 00 4A F4 C4 0A")
-    (hex "C2 30 14 00 01 01 02 2F 08 00 4D 29 AD 00 93 03 E5 00 00 CE 5B B1 EE")
-    (hex "C4 30 38 00 00 00 00 00 00 00 00 00 00 04 00 02 00 12 34 02 00 03 01 00 03 00 12 34 03 00 03 01 00 04 00 12 34 04 00 03 01 00 05 00 12 34 05 00 03 01 93 03 E5 00 00 A9 F1 EE 35")
-    (hex "C4 30 11 00 01 00 00 00 02 01 84 93 03 E5 00 00 0C B9 F5 D9")
+borders = said bordersCds bordersMms bordersVcm bordersDcm
 
 -- the ranges of C7
 abbrev pub c7Ranges : List (Numbered Range)
@@ -77,7 +84,7 @@ pub record Examples : Type 0 where
   -- C3 `01 00 00 15 17`: 53,990, reads, tuning gives 20
   pub c3 :
       (carrierKhz (carriersOf (hex "01 00 00 15 17")) 0 ≡ 53990)
-      × (check (hex "C2 30 25 00 02 04 01 01 00 00 15 18 00 01 00 00 15 17 00 01 00 00 9F 50 00 01 00 00 9F 51 00 93 03 E5 00 00 4A F4 C4 0A") ≡ 0)
+      × (check bordersCds ≡ 0)
       × (lookUp borders 3 ≡ Tuned.Refused 20)
   -- C4 `01 00 00 9F 50`: 1,002,000; `..51` in the last byte: 1,002,125, gives 20
   pub c4 :
