@@ -215,33 +215,52 @@ def types_of(signature):
     return types[:-1]
 
 
-def equations(text):
-    """Each equation of a definition: its name, its arguments with their types, and where its body begins and ends."""
-    lines, at, name, kind, types = text.splitlines(keepends=True), 0, None, None, []
-    spans = []
-    for line in lines:
+@dataclasses.dataclass
+class Span:
+    """What a definition's equation says, or a field of a relation asks: its name, the arguments with their types, and its place."""
+
+    name: str
+    arguments: dict
+    start: int
+    end: int
+
+
+def arguments_of(left, types):
+    """The names that the left side of an equation binds, each with its type; what is bound in one pattern counts as of one type."""
+    patterns = re.findall(r"\(.*?\)|\S+", left)[1:]
+    arguments = {p: t for p, t in zip(patterns, types) if NAME.fullmatch(p)}
+    for pattern in patterns:
+        if pattern.startswith("("):
+            arguments |= {w: pattern for w in re.findall(r"[^\s()]+", pattern)[1:] if NAME.fullmatch(w)}
+    return arguments
+
+
+def span_of(line, at, name, kind, types):
+    """The span that begins in a line of a definition or of a record, if one does."""
+    bare = line.strip()
+    if kind and " : " in line:
+        field = bare.removeprefix("pub ").split()[0]
+        return Span(f"{name}.{field}", {}, at + line.index(" : ") + 3, at + len(line))
+    equals = re.search(r"(?<= )=(?=\s)", line)
+    if not kind and equals and re.match(rf"{re.escape(name)}( |$)", bare):
+        return Span(name, arguments_of(line[: equals.start()], types), at + equals.end(), at + len(line))
+    return None
+
+
+def spans_of(text):
+    """The spans of a file, in its order. A line that begins none belongs to the one before it."""
+    spans, at, name, kind, types = [], 0, None, None, []
+    for line in text.splitlines(keepends=True):
         declared = DECLARED.match(line)
         if declared:
             kind, name = declared["kind"], declared["name"] or declared["type"]
             types = types_of(line.partition(" : ")[2])
-        bare = line.strip()
-        if kind is None and name and not declared and re.match(rf"{re.escape(name)}( |$)", bare):
-            equals = re.search(r"(?<= )=(?=\s)", line)
-            if equals:
-                patterns = re.findall(r"\(.*?\)|\S+", line[: equals.start()])[1:]
-                arguments = {p: t for p, t in zip(patterns, types) if NAME.fullmatch(p)}
-                # a pattern that takes a value apart binds names of types that the signature doesn't say: neighbours there are tried
-                for pattern in patterns:
-                    if pattern.startswith("("):
-                        arguments |= {w: pattern for w in re.findall(r"[^\s()]+", pattern)[1:] if NAME.fullmatch(w)}
-                spans.append([name, arguments, at + equals.end(), at + len(line)])
-        elif spans and spans[-1][0] == name and kind is None and not declared and bare and not bare.startswith("--"):
-            spans[-1][3] = at + len(line)
-        elif kind and name and not declared and bare and not bare.startswith("--") and " : " in line:
-            # a field of a record or a constructor of a relation
-            spans.append([f"{name}.{bare.split()[1 if bare.startswith('pub ') else 0]}", {}, at + line.index(" : ") + 3, at + len(line)])
-        elif kind and spans and spans[-1][0].startswith(f"{name}.") and not declared and bare and not bare.startswith("--"):
-            spans[-1][3] = at + len(line)
+        elif name and line.strip() and not line.strip().startswith("--"):
+            begins = span_of(line, at, name, kind, types)
+            if begins:
+                spans.append(begins)
+            elif spans and spans[-1].name.split(".")[0] == name:
+                spans[-1].end = at + len(line)
         at += len(line)
     return spans
 
@@ -255,9 +274,12 @@ def shown(text, start, end, new):
 
 
 def demands(file, text):
-    """Of the relations of Growth.antt: each field left out."""
+    """Of the relations of Growth.antt: each field left out, but for those of `Grown` that speak of the parts of its sections, whatever they are. That
+    these ask for enough is condition 3 itself."""
     for block in re.finditer(r"^pub record (\w+) \(.*?\) : Type 0 where\n((?:  .*\n)+)", text, re.MULTILINE):
         for field in re.finditer(r"^  pub (\w+) : (.*)\n", block[2], re.MULTILINE):
+            if re.search(r"before|after|^Content$|^Parts$", field[2]):
+                continue
             start = block.start(2) + field.start(2)
             yield Change(file, f"{block[1]}.{field[1]}", "demand", start, start + len(field[2]), "Unit {0}", f"⟨{field[2]} ⇒ asked for nothing⟩")
 
@@ -267,14 +289,14 @@ def changes_of(crate, file):
     text = (crate / "specs" / f"{file}.antt").read_text(encoding="utf-8")
     structs = structs_of(crate)
     tokens = tokens_of(text)
-    for name, arguments, start, end in equations(text):
-        inside = [t for t in tokens if start <= t.start < end]
+    for span in spans_of(text):
+        inside = [t for t in tokens if span.start <= t.start < span.end]
         # a record or a relation has rules of its own in Growth.antt alone; elsewhere it only names types
-        if "." in name and file != "Growth":
+        if "." in span.name and file != "Growth":
             continue
         for at in range(len(inside)):
-            for kind, first, last, new in token_changes(text, inside, at, structs, arguments):
-                yield Change(file, name, kind, first, last, new, shown(text, first, last, new))
+            for kind, first, last, new in token_changes(text, inside, at, structs, span.arguments):
+                yield Change(file, span.name, kind, first, last, new, shown(text, first, last, new))
     if file == "Growth":
         yield from demands(file, text)
 

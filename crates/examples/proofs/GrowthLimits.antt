@@ -1,6 +1,6 @@
 -- What growth is not: of each thing that the relation asks for, two that differ in it alone are not in it. By computation. (What is in it: Growths.antt. That
 -- nothing in it changes an answer is condition 3 itself.)
-use Prim.Native.Nat.{ℕ, suc}
+use Prim.Native.Nat.{ℕ, suc, _≤_}
 use native.Mathlib.Omega.{arith}
 use mathlib.Core.Path.{_≡_, refl, sym, ap}
 use mathlib.Core.List.{List, [], _∷_}
@@ -13,22 +13,10 @@ use Rattle.rules.specs.declared.Table.the-variants.{Cds, Vcm, Dcm}
 use Rattle.rules.proofs.Hex.{hex}
 use Rattle.rules.proofs.Truths.{differ, unlike, not-most}
 use Rattle.rules.proofs.Computed.{computed}
-use Rattle.examples.proofs.Growths.{d, p, carriersPlain}
-
--- parts of a section: byte 1, what stands in front of the records, the records
-abbrev parts : (number flags : ℕ) → (front : List ℕ) → List Piece → Parts
-parts number flags front pieces =
-    record { number = number; flags = flags; low = 0x10; front = front; pieces = pieces; closing = d 0x93 "E5 00 00" ∷ [] }
-
-abbrev record1 : List Piece
-record1 = p "02 80 30 81 C8" [] ∷ []
-
-abbrev channel1 : List Descriptor → List Piece
-channel1 list = p "00 03 00 12 34 02 00 03 01" list ∷ []
+use Rattle.examples.proofs.Plants.{d, p, carriersPlain, parts, record1, channel1}
 
 pub record GrowthLimits : Type 0 where
   -- ---- the revision descriptor: it was one and is one, of 3 bytes or more, with the same version, number and last
-  pub grows : GrownRevision (d 0x93 "E5 01 03") (d 0x93 "05 01 03 AA")
   pub was : GrownRevision (d 0x80 "E5 01 03") (d 0x93 "E5 01 03") → ⊥
   pub is : GrownRevision (d 0x93 "E5 01 03") (d 0x80 "E5 01 03") → ⊥
   pub long : GrownRevision (d 0x93 "E5 01") (d 0x93 "E5 01 00") → ⊥
@@ -38,7 +26,6 @@ pub record GrowthLimits : Type 0 where
   pub last : GrownRevision (d 0x93 "E5 01 03") (d 0x93 "E5 01 02") → ⊥
   -- ---- the parts of a section: four bytes of header and the head in front, records of their size, as many as the count says, lists only
   -- behind records that have them
-  pub shaped : Shaped Vcm (parts 0xC4 0x30 (hex "00 00 00 00 20 00 00 00 00 00 01") (channel1 (d 0x80 "" ∷ [])))
   pub front-short : Shaped Cds (parts 0xC2 0x30 (hex "00 01 01") record1) → ⊥
   pub front-long : Shaped Cds (parts 0xC2 0x30 (hex "00 01 01 01 00") record1) → ⊥
   pub head-short : Shaped Dcm (parts 0xC4 0x30 (hex "00 01 00 00 00 02") []) → ⊥
@@ -46,13 +33,12 @@ pub record GrowthLimits : Type 0 where
   pub fewer : Shaped Cds (parts 0xC2 0x30 (hex "00 01 02 01") record1) → ⊥
   pub no-list : Shaped Vcm (parts 0xC4 0x30 (hex "00 00 00 00 00 00 00 00 00 00 01") (channel1 (d 0x80 "" ∷ []))) → ⊥
   -- ---- what stays: the table number, the zero bits of byte 1 and nothing else of it, what stands in front of the records
-  pub reserved : GrownParts (parts 0xC2 0x00 [] []) (parts 0xC2 0x3F [] [])
-  pub reserved-back : GrownParts (parts 0xC2 0x3F [] []) (parts 0xC2 0x00 [] [])
   pub other-number : GrownParts (parts 0xC2 0x30 [] []) (parts 0xC4 0x30 [] []) → ⊥
   pub zero-bit : GrownParts (parts 0xC2 0x00 [] []) (parts 0xC2 0x40 [] []) → ⊥
   pub zero-bit-back : GrownParts (parts 0xC2 0x40 [] []) (parts 0xC2 0x00 [] []) → ⊥
   pub other-front : GrownParts (parts 0xC2 0x30 (0 ∷ []) []) (parts 0xC2 0x30 (1 ∷ []) []) → ⊥
   pub other-records : GrownParts (parts 0xC2 0x30 [] record1) (parts 0xC2 0x30 [] []) → ⊥
+  pub other-closing : GrownParts (parts 0xC2 0x30 [] []) (record { number = 0xC2; flags = 0x30; low = 0x10; front = []; pieces = []; closing = [] }) → ⊥
   -- ---- the first section reads right; the grown one has a right L and a right CRC
   pub not-right : (g : List ℕ) → Grown (hex "C2 30") g → ⊥
   pub not-fitting : Grown carriersPlain (hex "C2 30") → ⊥
@@ -63,6 +49,14 @@ fuller-count : {ps qs : List Piece} → FullerPieces ps qs → length ps ≡ len
 fuller-count end = refl
 fuller-count (FullerPieces.next own list more) = ap suc (fuller-count more)
 
+-- and no descriptor of a closing list is taken away
+closing-count : {ds es : List Descriptor} → GrownClosing ds es → length ds ≤ length es
+closing-count GrownClosing.empty = omega arith
+closing-count (GrownClosing.stays d more) = let n = closing-count more in omega (arith, n)
+closing-count (GrownClosing.added d ne more) = let n = closing-count more in omega (arith, n)
+closing-count (GrownClosing.other ne e more) = let n = closing-count more in omega (arith, n)
+closing-count (GrownClosing.revised grown more) = let n = closing-count more in omega (arith, n)
+
 wrong-right : {n : ℕ} {c : Content} → wrong n ≡ right c → ⊥
 wrong-right e = let z : _≡_ {A = ℕ} 0 1 = cc in omega arith
 
@@ -70,7 +64,6 @@ pub growth-limits : GrowthLimits
 unfolding computed
 growth-limits =
     record {
-      grows = record { was = refl; is = refl; long = omega arith; longer = omega arith; version = refl; number = refl; last = refl };
       was = λ g. unlike refl (g .was);
       is = λ g. unlike refl (g .is);
       long = λ g. not-most refl (g .long);
@@ -78,20 +71,18 @@ growth-limits =
       version = λ g. unlike refl (g .version);
       number = λ g. unlike refl (g .number);
       last = λ g. unlike refl (g .last);
-      shaped = record { front = refl; sized = (refl, λ e. absurd (differ e), tt); count = refl };
       front-short = λ s. unlike refl (s .front);
       front-long = λ s. unlike refl (s .front);
       head-short = λ s. unlike refl (s .front);
       own-short = λ s. unlike refl (s .sized .0);
       fewer = λ s. unlike refl (s .count);
       no-list = λ s. unlike refl (ap length (s .sized .1 refl));
-      reserved = record { number = refl; zeros = refl; front = refl; pieces = end; closing = GrownClosing.stays _ empty };
-      reserved-back = record { number = refl; zeros = refl; front = refl; pieces = end; closing = GrownClosing.stays _ empty };
       other-number = λ g. unlike refl (g .number);
       zero-bit = λ g. unlike refl (g .zeros);
       zero-bit-back = λ g. unlike refl (g .zeros);
       other-front = λ g. unlike refl (ap (byte 0) (g .front));
       other-records = λ g. unlike refl (fuller-count (g .pieces));
+      other-closing = λ g. not-most refl (closing-count (g .closing));
       not-right = λ s g. wrong-right (g .reads);
       not-fitting = λ g. differ (sym (g .fits));
       not-sealed = λ g. unlike refl (g .crc);

@@ -8,7 +8,7 @@ use mathlib.Core.Path.{refl}
 use mathlib.Core.List.{List, [], _∷_}
 use Rattle.rules.specs.Descriptors.{Descriptor}
 use Rattle.rules.specs.Section.{Structure, modes, channels, ranges, Content}
-use Rattle.rules.specs.Growth.{FullerList, empty, stays, added, other, revised, Piece, end, next, Grown, GrownRun, grown}
+use Rattle.rules.specs.Growth.{FullerList, GrownRevision, GrownClosing, Shaped, GrownParts, empty, stays, added, other, revised, Piece, end, next, Grown, GrownRun, grown}
 use Rattle.rules.specs.Growth
 use Rattle.rules.specs.declared.Table.{Table}
 use Rattle.rules.specs.declared.Table.the-variants.{Mms, Vcm, Dcm}
@@ -17,14 +17,7 @@ use Rattle.rules.proofs.Hex.{hex}
 use Rattle.rules.proofs.Computed.{computed}
 use Rattle.rules.proofs.Truths.{differ}
 use Rattle.rules.proofs.Examples.{c1Content, c7Ranges, c12Mode}
-use Rattle.examples.proofs.Plants.{examplePlant}
-
--- a descriptor, and a record with its list
-abbrev pub d : (tag : ℕ) → (body : String) → Descriptor
-d tag body = record { tag = tag; body = hex body }
-
-abbrev pub p : (own : String) → List Descriptor → Piece
-p own list = record { own = hex own; list = list }
+use Rattle.examples.proofs.Plants.{examplePlant, d, p, carriersPlain, parts, channel1}
 
 -- what a section of version 5, 0 of 0, for map 0 reads as
 abbrev said : Table → Structure → List Descriptor → Content
@@ -37,10 +30,7 @@ c9Channels included =
     channels (record { included = included; splice = 0; time = 0; count = 1 })
     (record { index = 0; what = record { number = 3; application = 0; path = 0; kind = 0; source = 0x1234; carrier = 2; signal = Digital 3 1 } } ∷ [])
 
-abbrev pub carriersPlain : List ℕ
-carriersPlain = hex "C2 30 13 00 01 01 01 02 80 30 81 C8 00 93 03 E5 00 00 74 9E FB E2"
-
-abbrev pub carriersGrown : List ℕ
+abbrev carriersGrown : List ℕ
 carriersGrown = hex "C2 00 20 00 01 01 01 02 80 30 81 C8 02 93 00 80 01 AA 81 00 93 05 05 00 00 AA BB C0 02 01 02 7D BB 44 30"
 
 abbrev modesPlain : List ℕ
@@ -281,6 +271,24 @@ included-grow =
     }
 
 -- the example plant, grown
+-- a revision descriptor with other reserved bits and a byte more; a list behind a record that has a descriptor count; all reserved bits of byte 1, with the
+-- four high bits of L, set and cleared
+pub revision-grows : GrownRevision (d 0x93 "E5 01 03") (d 0x93 "05 01 03 AA")
+unfolding computed
+revision-grows = record { was = refl; is = refl; long = omega arith; longer = omega arith; version = refl; number = refl; last = refl }
+
+pub included-shaped : Shaped Vcm (parts 0xC4 0x30 (hex "00 00 00 00 20 00 00 00 00 00 01") (channel1 (d 0x80 "" ∷ [])))
+unfolding computed
+included-shaped = record { front = refl; sized = (refl, λ e. absurd (differ e), tt); count = refl }
+
+pub reserved-set : GrownParts (parts 0xC2 0x00 [] []) (parts 0xC2 0x3F [] [])
+unfolding computed
+reserved-set = record { number = refl; zeros = refl; front = refl; pieces = end; closing = GrownClosing.stays _ empty }
+
+pub reserved-cleared : GrownParts (parts 0xC2 0x3F [] []) (parts 0xC2 0x00 [] [])
+unfolding computed
+reserved-cleared = record { number = refl; zeros = refl; front = refl; pieces = end; closing = GrownClosing.stays _ empty }
+
 abbrev pub grownPlant : List (List ℕ)
 grownPlant = carriersGrown ∷ modesGrown ∷ rangesGrown ∷ channelsGrown ∷ []
 

@@ -1,6 +1,9 @@
--- Plants that the facts share, as the sections that they send, with their CRC.
+-- What the facts share: plants, as the sections that they send, with their CRC; and parts of a section.
 use Prim.Native.Nat.{ℕ}
+use Prim.Native.String.{String}
 use mathlib.Core.List.{List, [], _∷_}
+use Rattle.rules.specs.Descriptors.{Descriptor}
+use Rattle.rules.specs.Growth.{Piece, Parts}
 use Rattle.rules.proofs.Hex.{hex}
 
 -- C1, C12 at mode index 1, C7 and C9, first index 1
@@ -37,3 +40,25 @@ plantVcm =
 
 abbrev pub plantDcm : List ℕ
 plantDcm = hex "C4 30 13 00 01 01 02 01 22 03 01 83 7F 93 03 E5 00 00 BC C8 E8 15"
+
+-- a descriptor, and a record with its list
+abbrev pub d : (tag : ℕ) → (body : String) → Descriptor
+d tag body = record { tag = tag; body = hex body }
+
+abbrev pub p : (own : String) → List Descriptor → Piece
+p own list = record { own = hex own; list = list }
+
+-- the section of the example plant with the record of C1
+abbrev pub carriersPlain : List ℕ
+carriersPlain = hex "C2 30 13 00 01 01 01 02 80 30 81 C8 00 93 03 E5 00 00 74 9E FB E2"
+
+-- parts of a section: byte 1, what stands in front of the records, the records
+abbrev pub parts : (number flags : ℕ) → (front : List ℕ) → List Piece → Parts
+parts number flags front pieces =
+    record { number = number; flags = flags; low = 0x10; front = front; pieces = pieces; closing = d 0x93 "E5 00 00" ∷ [] }
+
+abbrev pub record1 : List Piece
+record1 = p "02 80 30 81 C8" [] ∷ []
+
+abbrev pub channel1 : List Descriptor → List Piece
+channel1 list = p "00 03 00 12 34 02 00 03 01" list ∷ []
