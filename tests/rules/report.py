@@ -61,11 +61,31 @@ def document(found, outcomes, reasons):
     return HEAD + "\n".join(lines) + "\n"
 
 
+def log_of(root):
+    return root / "target" / "rules-tried.txt"
+
+
+def begin(root):
+    log_of(root).parent.mkdir(exist_ok=True)
+    log_of(root).write_text("", encoding="utf-8")
+
+
+def write_down(root, outcomes):
+    """Adds to the log. A change has a line for each step that it was tried in, and the last one counts."""
+    with log_of(root).open("a", encoding="utf-8") as log:
+        log.writelines(f"{outcome.word} | {outcome.by} | {change.kind} | {change.key()}\n" for change, outcome in outcomes.items())
+
+
+def settled(root):
+    """The changes that the log has as refused, or as no rule."""
+    if not log_of(root).is_file():
+        sys.exit("tests/rules/try: target/rules-tried.txt is not there: nothing was tried yet")
+    lines = [line.rstrip("\n").split(" | ", 3) for line in log_of(root).open(encoding="utf-8")]
+    return {key for word, _, _, key in lines if word in ("refused", "no-rule")}
+
+
 def tell(root, found, outcomes, whole):
     reasons = alike_list(pathlib.Path(__file__).resolve().parent)
-    log = root / "target" / "rules-tried.txt"
-    log.parent.mkdir(exist_ok=True)
-    log.write_text("".join(f"{outcomes[c].word} {outcomes[c].by} | {c.kind} | {c.key()}\n" for c in found), encoding="utf-8")
     alike = {c.key() for c in found if outcomes[c].word == "alike"}
     faults = [f"no fact refuses: {key}" for key in sorted(alike) if key not in reasons]
     faults += [f"the prover gave no answer ({outcomes[c].by}): {c.key()}" for c in found if outcomes[c].word == "no-answer"]
