@@ -2,8 +2,9 @@
 -- change of the rules against them), the outputs that the paper prints, and growth.
 
 -- ---- the clauses, floor by floor
-pub mod SectionFields  -- what a section says, field by field
-pub mod SectionRefusals  -- refusals 3 to 11, what the reader answers, the descriptor question
+pub mod SectionFields  -- what a section says, field by field; what the reader answers; the descriptor question
+pub mod SectionOrder  -- refusals 3 and 11, and the order front to back
+pub mod SectionRefusals  -- refusals 4 to 10, swept over every value and every bit
 pub mod HoldingClauses  -- holding and going live; refusals 1, 2, 12, 13
 pub mod TuningClauses  -- from number to tuner; refusals 16 to 21
 pub mod LiveBoxes  -- the same through `tune` of live boxes; 1, 2, 14, 15, 16 in their order

@@ -3,10 +3,11 @@
 use Prim.Native.Nat.{ℕ}
 use mathlib.Core.Path.{_≡_, refl}
 use mathlib.Core.List.{List, [], _∷_, _++_, map}
+use Rattle.rules.specs.Crc.{bitsOf, crcOf}
 use Rattle.rules.specs.Descriptors.{Descriptor}
 use Rattle.rules.specs.Layout.{Numbered}
 use Rattle.rules.specs.Tables.{carriersZeros, carriersOf, carrierKhz, modeZeros, modeOf, vcmHeadZeros, vcmHeadOf, transportOf, channelZeros, channelOf, dcmHeadZeros, dcmHeadOf, rangeOf}
-use Rattle.rules.specs.Section.{Structure, carriers, modes, channels, ranges, Reading, right, content, withoutCrc, read}
+use Rattle.rules.specs.Section.{Structure, carriers, modes, channels, ranges, Reading, wrong, right, content, withoutCrc, read, readAs, askedOf, partOf}
 use Rattle.rules.specs.declared.Table.{Table}
 use Rattle.rules.specs.declared.Table.the-variants.{Cds, Mms, Vcm, Dcm}
 use Rattle.rules.specs.declared.Carriers.{Carriers}
@@ -15,6 +16,9 @@ use Rattle.rules.specs.declared.Channel.{Channel}
 use Rattle.rules.specs.declared.Signal.the-variants.{Digital, Analogue}
 use Rattle.rules.specs.declared.Range.{Range}
 use Rattle.rules.specs.declared.Revision.{Revision}
+use Rattle.rules.specs.Lineup.{text}
+use Rattle.rules.specs.declared.Read.the-variants as Read
+use Rattle.rules.specs.declared.Asked.the-variants as Asked
 use Rattle.rules.proofs.Hex.{hex}
 use Rattle.examples.proofs.Plants.{plantCds, plantMms, plantVcm, plantDcm}
 use Rattle.examples.proofs.Sweeps.{swept, sweep, answered, asNumber, halves, holding}
@@ -53,6 +57,14 @@ revision5 = record { version = 5; number = 0; last = 0 }
 abbrev closing5 : List Descriptor
 closing5 = record { tag = 0x93; body = hex "E5 00 00" } ∷ []
 
+-- what a section reads as that has passed checks 3 to 6
+abbrev pub behind : List ℕ → Reading
+behind s = read (content (withoutCrc s))
+
+-- descriptors in the closing list: 0x80, the revision, 0x81, and 0x80 again
+abbrev pub askedSection : List ℕ
+askedSection = hex "C2 30 17 00 01 00 01 80 02 AA BB 93 04 E5 00 00 FF 81 00 80 01 CC 7A C6 10 76"
+
 -- a section of version 5, 0 of 0, with nothing else in its closing list
 abbrev saidAs : Table → (map : ℕ) → Structure → Reading
 saidAs t map structure =
@@ -61,16 +73,16 @@ saidAs t map structure =
 pub record SectionFields : Type 0 where
   -- ---- what a section reads as: a plant with another value in every field, units mixed both ways
   pub reads-carriers :
-      read (content (withoutCrc plantCds))
+      behind plantCds
       ≡ saidAs Cds 0 (carriers 3 plantCarriers)
   pub reads-modes :
-      read (content (withoutCrc plantMms))
+      behind plantMms
       ≡ saidAs Mms 0 (modes 7 plantModes)
   pub reads-channels :
-      read (content (withoutCrc plantVcm))
+      behind plantVcm
       ≡ saidAs Vcm 0x0102 (channels (record { included = 1; splice = 1; time = 0x12345678; count = 3 }) plantChannels)
   pub reads-ranges :
-      read (content (withoutCrc plantDcm))
+      behind plantDcm
       ≡ saidAs Dcm 0x0102 (ranges (record { first = 0x122; length = 3 }) plantRanges)
   -- the version is the five low bits, number and last all bits of their bytes; three bytes more are passed over
   pub reads-revision :
@@ -121,6 +133,31 @@ pub record SectionFields : Type 0 where
   pub every-first : sweep 256 (λ b. asNumber (dcmHeadZeros (b ∷ []))) ≡ holding 16 240 1
   pub every-length : sweep 256 (λ b. asNumber (dcmHeadZeros (0 ∷ 0 ∷ b ∷ []))) ≡ holding 128 128 1
   pub every-range : sweep 256 (λ b. rangeOf (b ∷ []) .defined) ≡ halves 128 1
+  -- ---- what the reader answers: the refusal, or the head, of each table, with descriptors in front of the closing list and in it
+  pub head-refused : readAs (hex "C2 30 0F") (wrong 3) ≡ Read.Refused 3
+  pub head-carriers :
+      readAs plantCds (behind plantCds)
+      ≡ Read.Right (record { table = Cds; map = 0; revision = revision5; records = 7; count = 2; closing = 19 })
+  pub head-modes :
+      readAs plantMms (behind plantMms)
+      ≡ Read.Right (record { table = Mms; map = 0; revision = revision5; records = 7; count = 2; closing = 21 })
+  pub head-channels :
+      readAs plantVcm (behind plantVcm)
+      ≡ Read.Right (record { table = Vcm; map = 0x0102; revision = revision5; records = 14; count = 3; closing = 46 })
+  pub head-ranges :
+      readAs plantDcm (behind plantDcm)
+      ≡ Read.Right (record { table = Dcm; map = 0x0102; revision = revision5; records = 10; count = 3; closing = 13 })
+  -- ---- the descriptor question: the body of the first of a tag, behind others, as a part of the section
+  pub asked :
+      map (λ tag. askedOf tag askedSection (behind askedSection)) (0x93 ∷ 0x80 ∷ 0x81 ∷ 0x82 ∷ [])
+      ≡ Asked.There 13 4 ∷ Asked.There 9 2 ∷ Asked.There 19 0 ∷ Asked.Absent ∷ []
+  pub asked-parts :
+      map (λ tag. partOf askedSection (askedOf tag askedSection (behind askedSection))) (0x93 ∷ 0x80 ∷ 0x81 ∷ 0x82 ∷ [])
+      ≡ hex "E5 00 00 FF" ∷ hex "AA BB" ∷ [] ∷ [] ∷ []
+  pub asked-refused : partOf (hex "C2 30 0F") (askedOf 0x80 (hex "C2 30 0F") (wrong 3)) ≡ []
+  -- ---- the CRC: its check value, that of the digits 1 to 9, and the bits of a byte, most significant first
+  pub crc : crcOf (text "123456789") ≡ 0x0376E6E7
+  pub crc-bits : bitsOf (0xA7 ∷ 0x58 ∷ []) ≡ 1 ∷ 0 ∷ 1 ∷ 0 ∷ 0 ∷ 1 ∷ 1 ∷ 1 ∷ 0 ∷ 1 ∷ 0 ∷ 1 ∷ 1 ∷ 0 ∷ 0 ∷ 0 ∷ []
 
 pub section-fields : SectionFields
 unfolding computed swept
@@ -152,4 +189,14 @@ section-fields =
       every-first = refl;
       every-length = refl;
       every-range = refl;
+      head-refused = refl;
+      head-carriers = refl;
+      head-modes = refl;
+      head-channels = refl;
+      head-ranges = refl;
+      asked = refl;
+      asked-parts = refl;
+      asked-refused = refl;
+      crc = refl;
+      crc-bits = refl;
     }

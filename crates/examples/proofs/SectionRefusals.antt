@@ -1,27 +1,20 @@
--- Document 01, "Numbers of refusal", 3 to 11: every clause on both sides of its border, computed, and what the reader answers. A rule that drops a clause,
--- loosens or tightens it, or looks at other bits gives one of these inputs another answer. What a number can be is swept over all its values, a
--- bit over all bits of a section; what has passed checks 3 to 6 is swept without its CRC.
+-- Document 01, "Numbers of refusal", 4 to 10: every clause on both sides of its border, computed. A rule that drops a clause, loosens or
+-- tightens it, or looks at other bits gives one of these inputs another answer. What a number can be is swept over all its values, a bit
+-- over all bits of a section; what has passed checks 3 to 6 is swept without its CRC.
 use Prim.Native.Nat.{ℕ, _+_, _-_, _*_}
 use Prim.Native.String.{String}
 use mathlib.Core.Path.{_≡_, refl}
 use mathlib.Core.List.{List, [], _∷_, _++_, map}
 use lib.ListN.{length, take, replicate}
-use Rattle.rules.specs.Layout.{records}
-use Rattle.rules.specs.Section.{content, read, checkOf, check, readSection, readAs, ask, partOf}
-use Rattle.rules.specs.declared.Table.the-variants.{Cds, Mms, Vcm, Dcm}
-use Rattle.rules.specs.declared.Revision.{Revision}
-use Rattle.rules.specs.declared.Read.the-variants as Read
-use Rattle.rules.specs.declared.Asked.the-variants as Asked
+use Rattle.rules.specs.Section.{check}
 use Rattle.rules.proofs.Hex.{hex}
 use Rattle.examples.proofs.Sweeps.{swept, sweep, answeredFrom, answered, flipped, counting}
 use Rattle.rules.proofs.Computed.{computed}
 use Rattle.examples.proofs.Plants.{plantCds, plantMms, plantVcm, plantDcm}
+use Rattle.examples.proofs.SectionFields.{askedSection}
+use Rattle.examples.proofs.SectionOrder.{body}
 
--- what is answered to a section without its CRC that has passed checks 3 to 6
-abbrev pub body : List ℕ → ℕ
-body bs = checkOf (read (content bs))
-
--- a section that reads right, of each table and of each transport; and how long it is
+-- a section that reads right, of each table and of each transport
 abbrev pub carriersBody : List ℕ
 carriersBody = hex "C2 30 13 00 01 01 01 02 80 30 81 C8 00 93 03 E5 00 00"
 
@@ -85,21 +78,9 @@ lateRanges low = hex "C4 30 13 00 01 00 00 0F" ++ (low ∷ hex "03 82 FF 01 93 0
 abbrev pub rangeByte : ℕ → List ℕ
 rangeByte range = hex "C4 30 12 00 01 00 00 0F 80 02 81" ++ (range ∷ hex "93 03 E5 00 00")
 
--- descriptors in the closing list: 0x80, the revision, 0x81, and 0x80 again
-abbrev pub askedSection : List ℕ
-askedSection = hex "C2 30 17 00 01 00 01 80 02 AA BB 93 04 E5 00 00 FF 81 00 80 01 CC 7A C6 10 76"
-
-abbrev revision5 : Revision
-revision5 = record { version = 5; number = 0; last = 0 }
-
 pub record SectionRefusals : Type 0 where
-  -- ---- refusal 3, before 4: a table number of 0xC3 would be 4
-  -- fewer than 8 bytes; not exactly 3 + L, by one either way
-  pub three-few : map check ([] ∷ hex "C3 33 FF" ∷ hex "C3 30 04 00 00 00 00" ∷ hex "C3 30 05 00 00 00 00 00" ∷ []) ≡ 3 ∷ 3 ∷ 3 ∷ 4 ∷ []
-  pub three-exactly : map check (hex "C3 30 04 00 00 00 00 00" ∷ hex "C3 30 06 00 00 00 00 00" ∷ []) ≡ 3 ∷ 3 ∷ []
-  -- L is 12 bits, without the four in front of them; 1,021 is the most
-  pub three-bits : map (λ (flags : ℕ). check (0xC3 ∷ flags ∷ 0x05 ∷ replicate 261 0)) (0x01 ∷ 0xF1 ∷ 0x00 ∷ 0x02 ∷ []) ≡ 4 ∷ 4 ∷ 3 ∷ 3 ∷ []
-  pub three-above : check (0xC3 ∷ 0x33 ∷ 0xFD ∷ replicate 1021 0) ∷ check (0xC3 ∷ 0x33 ∷ 0xFE ∷ replicate 1022 0) ∷ [] ≡ 4 ∷ 3 ∷ []
+  -- ---- whole sections, with their CRC, that read right
+  pub right-ones : map check (plantCds ∷ plantMms ∷ plantVcm ∷ plantDcm ∷ askedSection ∷ []) ≡ 0 ∷ 0 ∷ 0 ∷ 0 ∷ 0 ∷ []
   -- ---- refusal 4, before 5: of all table numbers two pass, and then the CRC is wrong
   pub four : answered (λ (n : ℕ). check (n ∷ hex "30 05 00 00 00 00 00")) 5 256 ≡ 0xC2 ∷ 0xC4 ∷ []
   pub four-others : length (answered (λ (n : ℕ). check (n ∷ hex "30 05 00 00 00 00 00")) 4 256) ≡ 254
@@ -169,108 +150,15 @@ pub record SectionRefusals : Type 0 where
   -- channel count 0, defined or not; a range past 4095, by the ranges before it too
   pub ten-ranges : sweep 256 (λ n. body (rangeByte n)) ≡ 10 ∷ replicate 127 0 ++ (10 ∷ replicate 127 0)
   pub ten-past : map (λ low. body (lateRanges low)) (0x7E ∷ 0x7F ∷ []) ≡ 0 ∷ 10 ∷ []
-  -- ---- refusal 11, of the closing list: absent, twice, body below 3 bytes, number above last
-  pub eleven :
-      map (λ list. body (hex "C2 30 00 00 01 00 01" ++ list))
-      (hex "80 03 E5 00 00"
-      ∷ hex "93 03 E5 00 00 93 03 E5 00 00"
-      ∷ hex "93 02 E5 00"
-      ∷ hex "93 03 E5 01 00"
-      ∷ hex "93 03 E5 01 01"
-      ∷ hex "80 01 FF 93 04 E5 00 01 FF 81 00"
-      ∷ hex "93 02 E5 00 93 03 E5 00 00"
-      ∷ [])
-      ≡ 11 ∷ 11 ∷ 11 ∷ 11 ∷ 0 ∷ 0 ∷ 11 ∷ []
   -- all other tags are unknown and passed over: of all tags in front of the revision 0x93 alone is a second one; in a record's list every tag is passed over
   pub tags : sweep 256 (λ tag. body (hex "C2 30 00 00 01 00 01" ++ (tag ∷ hex "00 93 03 E5 00 00"))) ≡ replicate 0x93 0 ++ (11 ∷ replicate 108 0)
   pub record-tags : sweep 256 (λ tag. body (hex "C2 30 00 00 01 01 01 01 00 00 15 18 01" ++ (tag ∷ hex "00 93 03 E5 00 00"))) ≡ replicate 256 0
-  -- ---- the order front to back, each thing whole: 8 before 9 before 10, and a later one is not looked at
-  -- the header of 0xC2: medium and subtype not there, 9 of byte 1, 9 of byte 3, first index 0 before the first record
-  pub order-header :
-      map body
-      (hex "C2 40 00 20 00 00"
-      ∷ hex "C2 40 00 00 00 00 01"
-      ∷ hex "C2 00 00 20 00 00 01"
-      ∷ hex "C2 00 00 00 00 00 01"
-      ∷ hex "C2 30 00 00 00 01 01 01 40 00 15 18 00"
-      ∷ [])
-      ≡ 8 ∷ 9 ∷ 9 ∷ 10 ∷ 10 ∷ []
-  -- the header of 0xC4: medium and subtype not there; there and wrong, the map number cut; right, and the map number cut; then its zero
-  -- bits, before a head that is cut
-  pub order-map :
-      map body
-      (hex "C4 70 00 20"
-      ∷ hex "C4 70 00 20 20"
-      ∷ hex "C4 70 00 20 10 00"
-      ∷ hex "C4 70 00 00 00"
-      ∷ hex "C4 30 00 20 00 00"
-      ∷ hex "C4 70 00 00 00 00 00"
-      ∷ hex "C4 70 00 00 01 00 00 00 03"
-      ∷ [])
-      ≡ 8 ∷ 7 ∷ 7 ∷ 8 ∷ 8 ∷ 9 ∷ 9 ∷ []
-  -- a record of each kind that is short, has a zero bit set and a value out of its limits; then not short; then with its zero bits 0
-  pub order-carriers :
-      map (λ r. body (hex "C2 30 00 00 01 01 01" ++ r)) (hex "00 40 00 00" ∷ hex "00 40 00 00 00" ∷ hex "00 00 00 00 00" ∷ [])
-      ≡ 8 ∷ 9 ∷ 10 ∷ []
-  pub order-modes :
-      map (λ r. body (hex "C2 30 00 00 01 01 02" ++ r)) (hex "10 60 F0 00 00" ∷ hex "10 60 F0 00 00 00" ∷ hex "10 00 00 00 00 00" ∷ [])
-      ≡ 8 ∷ 9 ∷ 10 ∷ []
-  pub order-channels :
-      map (λ r. body (hex "C4 30 00 00 00 00 00 00 00 00 00 00 00 01" ++ r))
-      (hex "F0 00 5F 00 00 00 7F FF"
-      ∷ hex "F0 00 5F 00 00 00 7F FF FF"
-      ∷ hex "00 00 1F 00 00 00 0F 00 00"
-      ∷ [])
-      ≡ 8 ∷ 9 ∷ 10 ∷ []
-  pub order-ranges :
-      map (λ r. body (hex "C4 30 00 00 01 00 00" ++ r)) (hex "F0 00" ∷ hex "F0 00 81" ∷ hex "00 00 01" ∷ hex "00 00 01 00" ∷ [])
-      ≡ 8 ∷ 9 ∷ 8 ∷ 10 ∷ []
-  -- a descriptor count that isn't there; fewer descriptors than it says; one that ends at the CRC, and one that runs into it by a byte
-  pub order-lists :
-      map (λ r. body (hex "C2 30 00 00 01 01 01 01 00 00 15 18" ++ r))
-      ([]
-      ∷ hex "01"
-      ∷ hex "01 80"
-      ∷ hex "01 80 01"
-      ∷ hex "01 80 01 FF"
-      ∷ hex "02 80 01 FF"
-      ∷ hex "01 80 01 FF 93 03 E5 00 00"
-      ∷ [])
-      ≡ 8 ∷ 8 ∷ 8 ∷ 8 ∷ 11 ∷ 8 ∷ 0 ∷ []
-  -- descriptors-included: without it no count stands behind a channel record, with it one does
-  pub order-included :
-      map (λ head. body (head ++ hex "00 00 00 00 00 01 00 03 00 12 34 02 00 03 01 00 93 03 E5 00 00"))
-      (hex "C4 30 00 00 00 00 00 20"
-      ∷ hex "C4 30 00 00 00 00 00 00"
-      ∷ [])
-      ≡ 0 ∷ 8 ∷ []
-  -- ---- what the reader answers: the refusal, or the head, of each table, with descriptors in front of the closing list and in it
-  pub head-refused : readAs (hex "C2 30 0F") (readSection (hex "C2 30 0F")) ≡ Read.Refused 3
-  pub head-carriers :
-      readAs plantCds (readSection plantCds)
-      ≡ Read.Right (record { table = Cds; map = 0; revision = revision5; records = 7; count = 2; closing = 19 })
-  pub head-modes :
-      readAs plantMms (readSection plantMms)
-      ≡ Read.Right (record { table = Mms; map = 0; revision = revision5; records = 7; count = 2; closing = 21 })
-  pub head-channels :
-      readAs plantVcm (readSection plantVcm)
-      ≡ Read.Right (record { table = Vcm; map = 0x0102; revision = revision5; records = 14; count = 3; closing = 46 })
-  pub head-ranges :
-      readAs plantDcm (readSection plantDcm)
-      ≡ Read.Right (record { table = Dcm; map = 0x0102; revision = revision5; records = 10; count = 3; closing = 13 })
-  -- ---- the descriptor question: the body of the first of a tag, behind others, as a part of the section
-  pub asked : map (λ tag. ask tag askedSection) (0x93 ∷ 0x80 ∷ 0x81 ∷ 0x82 ∷ []) ≡ Asked.There 13 4 ∷ Asked.There 9 2 ∷ Asked.There 19 0 ∷ Asked.Absent ∷ []
-  pub asked-parts : map (λ tag. partOf askedSection (ask tag askedSection)) (0x93 ∷ 0x80 ∷ 0x81 ∷ 0x82 ∷ []) ≡ hex "E5 00 00 FF" ∷ hex "AA BB" ∷ [] ∷ [] ∷ []
-  pub asked-refused : partOf (hex "C2 30 0F") (ask 0x80 (hex "C2 30 0F")) ≡ []
 
 pub section-refusals : SectionRefusals
 unfolding computed swept
 section-refusals =
     record {
-      three-few = refl;
-      three-exactly = refl;
-      three-bits = refl;
-      three-above = refl;
+      right-ones = refl;
       four = refl;
       four-others = refl;
       five = refl;
@@ -302,23 +190,6 @@ section-refusals =
       ten-standards = refl;
       ten-ranges = refl;
       ten-past = refl;
-      eleven = refl;
       tags = refl;
       record-tags = refl;
-      order-header = refl;
-      order-map = refl;
-      order-carriers = refl;
-      order-modes = refl;
-      order-channels = refl;
-      order-ranges = refl;
-      order-lists = refl;
-      order-included = refl;
-      head-refused = refl;
-      head-carriers = refl;
-      head-modes = refl;
-      head-channels = refl;
-      head-ranges = refl;
-      asked = refl;
-      asked-parts = refl;
-      asked-refused = refl;
     }

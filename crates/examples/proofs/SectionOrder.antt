@@ -1,0 +1,113 @@
+-- Document 01, "Numbers of refusal": refusal 3, the order front to back, each thing taken whole, and refusal 11, computed. (Every clause of 4 to 10:
+-- SectionRefusals.antt.)
+use Prim.Native.Nat.{ℕ}
+use mathlib.Core.Path.{_≡_, refl}
+use mathlib.Core.List.{List, [], _∷_, _++_, map}
+use lib.ListN.{replicate}
+use Rattle.rules.specs.Section.{content, read, checkOf, check}
+use Rattle.rules.proofs.Hex.{hex}
+use Rattle.rules.proofs.Computed.{computed}
+
+-- what is answered to a section without its CRC that has passed checks 3 to 6
+abbrev pub body : List ℕ → ℕ
+body bs = checkOf (read (content bs))
+
+pub record SectionOrder : Type 0 where
+  -- ---- refusal 3, before 4: a table number of 0xC3 would be 4
+  -- fewer than 8 bytes; not exactly 3 + L, by one either way
+  pub three-few : map check ([] ∷ hex "C3 33 FF" ∷ hex "C3 30 04 00 00 00 00" ∷ hex "C3 30 05 00 00 00 00 00" ∷ []) ≡ 3 ∷ 3 ∷ 3 ∷ 4 ∷ []
+  pub three-exactly : map check (hex "C3 30 04 00 00 00 00 00" ∷ hex "C3 30 06 00 00 00 00 00" ∷ []) ≡ 3 ∷ 3 ∷ []
+  -- L is 12 bits, without the four in front of them; 1,021 is the most
+  pub three-bits : map (λ (flags : ℕ). check (0xC3 ∷ flags ∷ 0x05 ∷ replicate 261 0)) (0x01 ∷ 0xF1 ∷ 0x00 ∷ 0x02 ∷ []) ≡ 4 ∷ 4 ∷ 3 ∷ 3 ∷ []
+  pub three-above : check (0xC3 ∷ 0x33 ∷ 0xFD ∷ replicate 1021 0) ∷ check (0xC3 ∷ 0x33 ∷ 0xFE ∷ replicate 1022 0) ∷ [] ≡ 4 ∷ 3 ∷ []
+  -- ---- the order front to back, each thing whole: 8 before 9 before 10, and a later one is not looked at
+  -- the header of 0xC2: medium and subtype not there, 9 of byte 1, 9 of byte 3, first index 0 before the first record
+  pub order-header :
+      map body
+      (hex "C2 40 00 20 00 00"
+      ∷ hex "C2 40 00 00 00 00 01"
+      ∷ hex "C2 00 00 20 00 00 01"
+      ∷ hex "C2 00 00 00 00 00 01"
+      ∷ hex "C2 30 00 00 00 01 01 01 40 00 15 18 00"
+      ∷ [])
+      ≡ 8 ∷ 9 ∷ 9 ∷ 10 ∷ 10 ∷ []
+  -- the header of 0xC4: medium and subtype not there; there and wrong, the map number cut; right, and the map number cut; then its zero
+  -- bits, before a head that is cut
+  pub order-map :
+      map body
+      (hex "C4 70 00 20"
+      ∷ hex "C4 70 00 20 20"
+      ∷ hex "C4 70 00 20 10 00"
+      ∷ hex "C4 70 00 00 00"
+      ∷ hex "C4 30 00 20 00 00"
+      ∷ hex "C4 70 00 00 00 00 00"
+      ∷ hex "C4 70 00 00 01 00 00 00 03"
+      ∷ [])
+      ≡ 8 ∷ 7 ∷ 7 ∷ 8 ∷ 8 ∷ 9 ∷ 9 ∷ []
+  -- a record of each kind that is short, has a zero bit set and a value out of its limits; then not short; then with its zero bits 0
+  pub order-carriers :
+      map (λ r. body (hex "C2 30 00 00 01 01 01" ++ r)) (hex "00 40 00 00" ∷ hex "00 40 00 00 00" ∷ hex "00 00 00 00 00" ∷ [])
+      ≡ 8 ∷ 9 ∷ 10 ∷ []
+  pub order-modes :
+      map (λ r. body (hex "C2 30 00 00 01 01 02" ++ r)) (hex "10 60 F0 00 00" ∷ hex "10 60 F0 00 00 00" ∷ hex "10 00 00 00 00 00" ∷ [])
+      ≡ 8 ∷ 9 ∷ 10 ∷ []
+  pub order-channels :
+      map (λ r. body (hex "C4 30 00 00 00 00 00 00 00 00 00 00 00 01" ++ r))
+      (hex "F0 00 5F 00 00 00 7F FF"
+      ∷ hex "F0 00 5F 00 00 00 7F FF FF"
+      ∷ hex "00 00 1F 00 00 00 0F 00 00"
+      ∷ [])
+      ≡ 8 ∷ 9 ∷ 10 ∷ []
+  pub order-ranges :
+      map (λ r. body (hex "C4 30 00 00 01 00 00" ++ r)) (hex "F0 00" ∷ hex "F0 00 81" ∷ hex "00 00 01" ∷ hex "00 00 01 00" ∷ [])
+      ≡ 8 ∷ 9 ∷ 8 ∷ 10 ∷ []
+  -- a descriptor count that isn't there; fewer descriptors than it says; one that ends at the CRC, and one that runs into it by a byte
+  pub order-lists :
+      map (λ r. body (hex "C2 30 00 00 01 01 01 01 00 00 15 18" ++ r))
+      ([]
+      ∷ hex "01"
+      ∷ hex "01 80"
+      ∷ hex "01 80 01"
+      ∷ hex "01 80 01 FF"
+      ∷ hex "02 80 01 FF"
+      ∷ hex "01 80 01 FF 93 03 E5 00 00"
+      ∷ [])
+      ≡ 8 ∷ 8 ∷ 8 ∷ 8 ∷ 11 ∷ 8 ∷ 0 ∷ []
+  -- descriptors-included: without it no count stands behind a channel record, with it one does
+  pub order-included :
+      map (λ head. body (head ++ hex "00 00 00 00 00 01 00 03 00 12 34 02 00 03 01 00 93 03 E5 00 00"))
+      (hex "C4 30 00 00 00 00 00 20"
+      ∷ hex "C4 30 00 00 00 00 00 00"
+      ∷ [])
+      ≡ 0 ∷ 8 ∷ []
+  -- ---- refusal 11, of the closing list: absent, twice, body below 3 bytes, number above last
+  pub eleven :
+      map (λ list. body (hex "C2 30 00 00 01 00 01" ++ list))
+      (hex "80 03 E5 00 00"
+      ∷ hex "93 03 E5 00 00 93 03 E5 00 00"
+      ∷ hex "93 02 E5 00"
+      ∷ hex "93 03 E5 01 00"
+      ∷ hex "93 03 E5 01 01"
+      ∷ hex "80 01 FF 93 04 E5 00 01 FF 81 00"
+      ∷ hex "93 02 E5 00 93 03 E5 00 00"
+      ∷ [])
+      ≡ 11 ∷ 11 ∷ 11 ∷ 11 ∷ 0 ∷ 0 ∷ 11 ∷ []
+
+pub section-order : SectionOrder
+unfolding computed
+section-order =
+    record {
+      three-few = refl;
+      three-exactly = refl;
+      three-bits = refl;
+      three-above = refl;
+      order-header = refl;
+      order-map = refl;
+      order-carriers = refl;
+      order-modes = refl;
+      order-channels = refl;
+      order-ranges = refl;
+      order-lists = refl;
+      order-included = refl;
+      eleven = refl;
+    }
