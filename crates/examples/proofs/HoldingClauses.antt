@@ -4,7 +4,7 @@ use mathlib.Core.Path.{_≡_, refl}
 use mathlib.Core.List.{List, [], _∷_, _++_, map}
 use lib.ListN.{length, replicate}
 use Rattle.rules.specs.Section.{carriers, Content, right, wrong}
-use Rattle.rules.specs.Holding.{placeOf, storeSize, sectionAt, put, holdingOf, with, liveAt, gatheredAt, noneLive, noneGathered, freshHolding, fresh, holds, allOf, liveFormed, gatheredFormed, holdingFormed, stepOf, offeredAs, offered, takesIn, storeAfter, answerTo, boxAfter}
+use Rattle.rules.specs.Holding.{placeOf, storeSize, sectionAt, put, holdingOf, with, liveAt, gatheredAt, noneLive, noneGathered, freshHolding, fresh, holds, allOf, liveFormed, gatheredFormed, sameVersion, holdingFormed, stepOf, offeredAs, offered, takesIn, storeAfter, answerTo, boxAfter}
 use Rattle.rules.specs.declared.Table.{Table}
 use Rattle.rules.specs.declared.Table.the-variants.{Cds, Mms, Vcm, Dcm}
 use Rattle.rules.specs.declared.LiveVersion.{LiveVersion}
@@ -142,6 +142,7 @@ pub record HoldingClauses : Type 0 where
       × (answered (λ n. formed (holding (live 1 6 1) (gathered 1 5 3 6) n)) 1 256 ≡ 0 ∷ 1 ∷ [])
   -- live and gathered version equal, whatever their last; where one of them is absent it has no version
   pub two-same : answered (λ n. formed (holding (live 1 6 1) (gathered 1 n 3 6) 0)) 0 32 ≡ 6 ∷ []
+  pub two-same-present : asNumber (sameVersion (holding (live 1 5 0) (gathered 2 5 1 1) 0)) ≡ 0
   pub two-same-absent : formed (holding noneLive (gathered 1 0 1 1) 0) ∷ formed (holding (live 1 0 0) noneGathered 0) ∷ [] ≡ 1 ∷ 1 ∷ []
   -- what is live and what is gathered are both judged
   pub two-both : formed both ∷ formed (holding (live 1 6 4) (gathered 1 5 3 6) 0) ∷ formed (holding (live 1 6 1) (gathered 1 5 4 6) 0) ∷ [] ≡ 1 ∷ 0 ∷ 0 ∷ []
@@ -181,6 +182,16 @@ pub record HoldingClauses : Type 0 where
   pub thirteen : map (λ last. stepOf 4 both (revised 6 0 last) .answer) (0 ∷ 1 ∷ 2 ∷ 3 ∷ []) ≡ Refused 13 ∷ Repeat ∷ Refused 13 ∷ Refused 13 ∷ []
   pub thirteen-gathered : map (λ last. stepOf 4 both (revised 5 0 last) .answer) (0 ∷ 1 ∷ 2 ∷ 3 ∷ []) ≡ Refused 13 ∷ Refused 13 ∷ Refused 13 ∷ Stored 1 ∷ []
   pub thirteen-holding : map (λ v. stepOf 4 both (revised v 0 2) .holding) (5 ∷ 6 ∷ []) ≡ both ∷ both ∷ []
+  pub thirteen-other :
+      map (λ last. stepOf 4 (holding (live 1 6 3) (gathered 1 5 1 0x01) 0) (revised 6 0 last) .answer) (1 ∷ 2 ∷ 3 ∷ [])
+      ≡ Refused 13 ∷ Refused 13 ∷ Repeat ∷ []
+  pub thirteen-above :
+      map (λ last. stepOf 4 (holding (live 1 6 3) (gathered 1 5 1 0x01) 0) (revised 5 1 last) .answer) (1 ∷ 2 ∷ 3 ∷ [])
+      ≡ Live 5 ∷ Refused 13 ∷ Refused 13 ∷ []
+  -- present is 1 or it is none: 2 is no version either (and refusal 2)
+  pub present-two :
+      map (λ v. stepOf 4 (holding (live 2 6 1) (gathered 2 5 1 0x02) 0) (revised v 0 1) .answer) (5 ∷ 6 ∷ [])
+      ≡ Stored 1 ∷ Stored 1 ∷ []
   -- nothing live and nothing gathered is of no version, not of version 0
   pub none-zero : stepOf 4 freshHolding (revised 0 0 1) ≡ record { answer = Stored 1; holding = holding noneLive (gathered 1 0 1 1) 1 }
   pub none-zero-live : stepOf 4 freshHolding (revised 0 0 0) ≡ record { answer = Live 0; holding = holding (live 1 0 0) noneGathered 0 }
@@ -206,6 +217,8 @@ pub record HoldingClauses : Type 0 where
       stepOf 4 (holding (live 1 6 1) (gathered 1 5 1 0x02) 1) (revised 5 0 1)
       ≡ record { answer = Live 5; holding = holding (live 1 5 1) noneGathered 0 }
   pub missing : map (λ last. stepOf 4 both (revised 7 0 last) .answer) (0 ∷ 1 ∷ 2 ∷ 3 ∷ []) ≡ Live 7 ∷ Stored 1 ∷ Stored 2 ∷ Stored 3 ∷ []
+  -- in a state that is not well formed, with a number beyond last held: these are not just all of 0 to last
+  pub beyond : stepOf 4 (holding noneLive (gathered 1 5 1 0x05) 1) (revised 5 1 1) .answer ≡ Stored 0
   -- ---- the store after an offer
   pub takes : map (λ a. asNumber (takesIn a)) (Refused 5 ∷ OtherMap ∷ Repeat ∷ Stored 1 ∷ Live 5 ∷ []) ≡ 0 ∷ 0 ∷ 0 ∷ 1 ∷ 1 ∷ []
   -- the section stands at the front of its place, section 2 of half 0, and every other byte is as it was
@@ -247,6 +260,7 @@ holding-clauses =
       two-held = refl;
       two-half = (refl, refl);
       two-same = refl;
+      two-same-present = refl;
       two-same-absent = refl;
       two-both = refl;
       two-tables = refl;
@@ -262,6 +276,9 @@ holding-clauses =
       thirteen = refl;
       thirteen-gathered = refl;
       thirteen-holding = refl;
+      thirteen-other = refl;
+      thirteen-above = refl;
+      present-two = refl;
       none-zero = refl;
       none-zero-live = refl;
       repeats = refl;
@@ -272,6 +289,7 @@ holding-clauses =
       lives = refl;
       lives-back = refl;
       missing = refl;
+      beyond = refl;
       takes = refl;
       stores = refl;
       stores-refused = refl;

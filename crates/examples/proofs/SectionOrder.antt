@@ -65,6 +65,7 @@ pub record SectionOrder : Type 0 where
   pub order-lists :
       map (λ r. body (hex "C2 30 00 00 01 01 01 01 00 00 15 18" ++ r))
       ([]
+      ∷ hex "00"
       ∷ hex "01"
       ∷ hex "01 80"
       ∷ hex "01 80 01"
@@ -72,7 +73,7 @@ pub record SectionOrder : Type 0 where
       ∷ hex "02 80 01 FF"
       ∷ hex "01 80 01 FF 93 03 E5 00 00"
       ∷ [])
-      ≡ 8 ∷ 8 ∷ 8 ∷ 8 ∷ 11 ∷ 8 ∷ 0 ∷ []
+      ≡ 8 ∷ 11 ∷ 8 ∷ 8 ∷ 8 ∷ 11 ∷ 8 ∷ 0 ∷ []
   -- descriptors-included: without it no count stands behind a channel record, with it one does
   pub order-included :
       map (λ head. body (head ++ hex "00 00 00 00 00 01 00 03 00 12 34 02 00 03 01 00 93 03 E5 00 00"))

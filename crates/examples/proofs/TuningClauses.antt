@@ -8,7 +8,7 @@ use mathlib.Core.Option.{none, some}
 use lib.Dec.{eqb}
 use Rattle.rules.specs.Layout.{Numbered}
 use Rattle.rules.specs.Tables.{carriersOf, channelOf, rangeOf}
-use Rattle.rules.specs.Holding.{noneGathered}
+use Rattle.rules.specs.Holding.{noneGathered, with}
 use Rattle.rules.specs.Search.{first, sections}
 use Rattle.rules.specs.Tuning.{Plant, isSection, every, covers, inReach, defined, lookUp}
 use Rattle.rules.specs.declared.Table.{Table}
@@ -37,6 +37,9 @@ c12 = record { system = 2; inner = 15; split = 0; format = 8; symbols = 5056941 
 abbrev pub carriersAt : (index : ℕ) → List ℕ → List (Numbered Carriers)
 carriersAt index r = record { index = index; what = carriersOf r } ∷ []
 
+abbrev pub modeAt : (index : ℕ) → List (Numbered Mode)
+modeAt index = record { index = index; what = c12 } ∷ []
+
 abbrev pub channelIs : List ℕ → List (Numbered Channel)
 channelIs r = record { index = 0; what = channelOf r } ∷ []
 
@@ -48,7 +51,7 @@ abbrev pub small : List (Numbered Channel) → Plant
 small channels =
     record {
       carriers = carriersAt 3 (hex "03 80 30 81 C8");
-      modes = record { index = 1; what = c12 } ∷ [];
+      modes = modeAt 1;
       channels = channels;
       ranges = rangeAt 7 (hex "83");
     }
@@ -61,18 +64,19 @@ eight carrier mode = channelIs (hex "00 08 00 12 34" ++ (carrier ∷ hex "00 03"
 abbrev pub eightAnalogue : (carrier : ℕ) → List (Numbered Channel)
 eightAnalogue carrier = channelIs (hex "00 08 10 12 34" ++ (carrier ∷ hex "02 00 00"))
 
--- is a section of that table, map and revision the section n of the table that is live?
+-- is a section of that table, map and revision the section n of the table that is live? Of the MMS the live last number is 2
 abbrev pub fits : Table → (n : ℕ) → (table : Table) → (map version number last : ℕ) → ℕ
-fits t n table map version number last = asNumber (isSection live5 t n table map (revised version number last))
+fits t n table map version number last =
+    asNumber (isSection (with live5 Mms (holding (live 1 5 2) noneGathered 0)) t n table map (revised version number last))
 
 pub record TuningClauses : Type 0 where
   -- ---- refusal 16, unless each live place reads right
   -- as that table, map, version, number and last: each of the five, and the map of VCM and DCM alone
-  pub sixteen-table : map (λ table. fits Mms 0 table 0x0102 5 0 0) (Cds ∷ Mms ∷ Vcm ∷ Dcm ∷ []) ≡ 0 ∷ 1 ∷ 0 ∷ 0 ∷ []
-  pub sixteen-map : map (λ t. fits t 0 t 0x0103 5 0 0) (Cds ∷ Mms ∷ Vcm ∷ Dcm ∷ []) ≡ 1 ∷ 1 ∷ 0 ∷ 0 ∷ []
+  pub sixteen-table : map (λ table. fits Mms 0 table 0x0102 5 0 2) (Cds ∷ Mms ∷ Vcm ∷ Dcm ∷ []) ≡ 0 ∷ 1 ∷ 0 ∷ 0 ∷ []
+  pub sixteen-map : fits Mms 0 Mms 0x0103 5 0 2 ∷ map (λ t. fits t 0 t 0x0103 5 0 0) (Cds ∷ Vcm ∷ Dcm ∷ []) ≡ 1 ∷ 1 ∷ 0 ∷ 0 ∷ []
   pub sixteen-version : answered (λ version. fits Vcm 0 Vcm 0x0102 version 0 0) 1 32 ≡ 5 ∷ []
   pub sixteen-number : answered (λ number. fits Vcm 2 Vcm 0x0102 5 number 0) 1 32 ≡ 2 ∷ []
-  pub sixteen-last : answered (λ last. fits Vcm 0 Vcm 0x0102 5 0 last) 1 32 ≡ 0 ∷ []
+  pub sixteen-last : answered (λ last. fits Mms 0 Mms 0x0102 5 0 last) 1 32 ≡ 2 ∷ []
   -- every place from 0 to last, and none behind it
   pub sixteen-places : map (λ bad. asNumber (every 3 (λ n. not (eqb n bad)))) (0 ∷ 1 ∷ 2 ∷ 3 ∷ []) ≡ 0 ∷ 0 ∷ 0 ∷ 1 ∷ []
   -- ---- the searches: the first match, and where a record begins and ends
@@ -103,13 +107,15 @@ pub record TuningClauses : Type 0 where
   pub twenty : map (λ khz. asNumber (inReach khz)) (53999 ∷ 54000 ∷ 54001 ∷ 1001999 ∷ 1002000 ∷ 1002001 ∷ []) ≡ 0 ∷ 1 ∷ 1 ∷ 1 ∷ 1 ∷ 0 ∷ []
   -- 21: digital alone, reference 0, also where a record has index 0, and no record
   pub twenty-one : map (λ mode. lookUp (small (eight 3 mode)) 8) (0 ∷ 1 ∷ 2 ∷ []) ≡ Tuned.Refused 21 ∷ Tuned.Digital 0 0 57000 3 c12 ∷ Tuned.Refused 21 ∷ []
-  pub twenty-one-zero :
-      lookUp (record { carriers = carriersAt 3 (hex "03 80 30 81 C8"); modes = record { index = 0; what = c12 } ∷ []; channels = eight 3 0; ranges = rangeAt 7 (hex "83") }) 8
-      ≡ Tuned.Refused 21
-  -- an application channel needs no carrier; path and hidden of all three kinds
-  pub kinds : map (λ flags. lookUp (small (channelIs (hex "00 08" ++ (flags ∷ hex "12 34 03 00 00 01")))) 8) (0x00 ∷ 0x01 ∷ 0x20 ∷ 0x21 ∷ 0x10 ∷ 0x11 ∷ 0x30 ∷ 0x80 ∷ 0x81 ∷ 0xA0 ∷ 0x90 ∷ [])
+  pub twenty-one-zero : map (λ mode. lookUp (record { carriers = small [] .carriers; modes = modeAt 0; channels = eight 3 mode; ranges = small [] .ranges }) 8) (0 ∷ 1 ∷ []) ≡ Tuned.Refused 21 ∷ Tuned.Refused 21 ∷ []
+  pub twenty-one-lower : lookUp (record { carriers = small [] .carriers; modes = modeAt 2; channels = eight 3 1; ranges = small [] .ranges }) 8 ≡ Tuned.Refused 21
+  -- an application channel needs no carrier; path of all three kinds, and hidden, which is type 1 alone
+  pub kinds :
+      map (λ flags. lookUp (small (channelIs (hex "00 08" ++ (flags ∷ hex "12 34 03 00 00 01")))) 8)
+      (hex "00 01 02 20 21 10 11 30 80 81 A0 90")
       ≡ Tuned.Digital 0 0 57000 0 c12
       ∷ Tuned.Digital 1 0 57000 0 c12
+      ∷ Tuned.Digital 0 0 57000 0 c12
       ∷ Tuned.Digital 0 1 57000 0 c12
       ∷ Tuned.Digital 1 1 57000 0 c12
       ∷ Tuned.Analogue 0 0 57000 0 0
@@ -143,5 +149,6 @@ tuning-clauses =
       twenty = refl;
       twenty-one = refl;
       twenty-one-zero = refl;
+      twenty-one-lower = refl;
       kinds = refl;
     }
