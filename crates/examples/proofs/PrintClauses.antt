@@ -7,7 +7,7 @@ use mathlib.Core.List.{List, [], _∷_, _++_, map}
 use lib.ListN.{replicate}
 use lib.Dec.{eqb}
 use Rattle.rules.specs.Holding.{noneLive, noneGathered, fresh}
-use Rattle.rules.specs.Lineup.{text, decimal, field, line, sectionsOf, freshBox, refusals, versionLines, channelLine, channelLines, heading, lineup}
+use Rattle.rules.specs.Lineup.{text, decimal, field, line, sectionsOf, freshBox, refusals, version, versionLines, channelLine, channelLines, heading, lineup}
 use Rattle.rules.specs.Feeding.{isWhole, wholes, unfinished, lastOf, Intake, begin, feed, feedAll, finish}
 use Rattle.rules.specs.declared.Mode.{Mode}
 use Rattle.rules.specs.declared.State.{State}
@@ -51,7 +51,9 @@ pub record PrintClauses : Type 0 where
   -- ---- text and numbers
   pub texts : text "aZ=\n" ≡ 97 ∷ 90 ∷ 61 ∷ 10 ∷ []
   pub decimals : map decimal (0 ∷ 9 ∷ 10 ∷ 105 ∷ 1002000 ∷ []) ≡ text "0" ∷ text "9" ∷ text "10" ∷ text "105" ∷ text "1002000" ∷ []
-  pub most : decimal 18446744073709551615 ≡ text "18446744073709551615"
+  pub most :
+      map decimal (18446744073709551615 ∷ 99999999999999999999 ∷ [])
+      ≡ text "18446744073709551615" ∷ text "99999999999999999999" ∷ []
   pub fields : field "key=" 12 ≡ text "key=12"
   pub lines : line "key=" (text "value") ≡ text "key=value\n"
   -- ---- the input: each section takes 3 + L bytes; an unfinished last one is offered as it is
@@ -67,6 +69,7 @@ pub record PrintClauses : Type 0 where
   pub versions-other :
       versionLines (record { map = 258; cds = someLive .dcm; mms = someLive .vcm; vcm = someLive .mms; dcm = someLive .cds })
       ≡ text "cds=none\nmms=none\nvcm=0\ndcm=1\n"
+  pub no-version : map version (live 0 0 0 ∷ live 1 5 0 ∷ live 2 5 0 ∷ []) ≡ text "none" ∷ text "5" ∷ text "none" ∷ []
   pub headed : heading someLive 11 22 33 ≡ text "lineup=1\nmap=258\nsections=11\nrefused=22\n" ++ versionLines someLive ++ text "channels=33\n"
   pub digital :
       channelLine 5 (Tuned.Digital 1 0 63000 3 someMode)
@@ -91,6 +94,10 @@ pub record PrintClauses : Type 0 where
   pub begun : begin 258 ≡ record { box = freshBox 258; sections = 0; refused = 0; kept = [] }
   pub fed : taken ≡ record { box = freshBox 258; sections = 2; refused = 2; kept = hex "C2 00 05 11" }
   pub fed-on : feed taken (hex "22 33 44 55 C4") ≡ record { box = freshBox 258; sections = 3; refused = 3; kept = hex "C4" }
+  -- the counts go on from what they were: of five sections one was refused, and now one more is
+  pub fed-counts :
+      feed (record { box = freshBox 258; sections = 5; refused = 1; kept = hex "C4" }) (hex "00 00")
+      ≡ record { box = freshBox 258; sections = 6; refused = 2; kept = [] }
   pub finished : finish taken ≡ record { box = freshBox 258; sections = 3; refused = 3; kept = [] }
   pub finished-whole : finish (begin 258) ≡ begin 258
 
@@ -109,6 +116,7 @@ print-clauses =
       counted = refl;
       versions = refl;
       versions-other = refl;
+      no-version = refl;
       headed = refl;
       digital = refl;
       analogue = refl;
@@ -124,6 +132,7 @@ print-clauses =
       begun = refl;
       fed = refl;
       fed-on = refl;
+      fed-counts = refl;
       finished = refl;
       finished-whole = refl;
     }

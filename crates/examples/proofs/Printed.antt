@@ -1,7 +1,8 @@
 -- Document 01, "The C side and the printed line-up": the two outputs that it shows, whole, computed from the rules on their inputs.
 use mathlib.Core.Path.{_≡_, refl}
-use mathlib.Core.List.{_++_, flatten}
-use Rattle.rules.specs.Lineup.{text, lineup}
+use mathlib.Core.List.{[], _++_, flatten}
+use Rattle.rules.specs.Lineup.{text, freshBox, lineup}
+use Rattle.rules.specs.Feeding.{shown}
 use Rattle.rules.proofs.Hex.{hex}
 use Rattle.rules.proofs.Computed.{computed}
 use Rattle.examples.proofs.Plants.{examplePlant, firstAndLast}
@@ -20,7 +21,11 @@ pub record Printed : Type 0 where
       ≡ text "lineup=1\nmap=258\nsections=7\nrefused=1\ncds=1\nmms=2\nvcm=3\ndcm=4\nchannels=2\n"
       ++ text "channel=0 kind=application hidden=0 path=0 application=7\n"
       ++ text "channel=4095 kind=application hidden=1 path=1 application=258\n"
+  -- of two sections, of which one was refused, to a box that has nothing live
+  pub counts :
+      shown (record { box = freshBox 258; sections = 2; refused = 1; kept = [] })
+      ≡ text "lineup=1\nmap=258\nsections=2\nrefused=1\ncds=none\nmms=none\nvcm=none\ndcm=none\nchannels=0\n"
 
 pub printed : Printed
 unfolding computed
-printed = record { empty = refl; digital = refl; first-and-last = refl }
+printed = record { empty = refl; digital = refl; first-and-last = refl; counts = refl }
