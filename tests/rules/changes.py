@@ -147,7 +147,7 @@ def equal_changes(text, tokens, at):
     a = text[tokens[at + 1].start : tokens[first - 1].end]
     b = text[tokens[first].start : tokens[second - 1].end]
     # a number that is at most 0 is 0
-    if b != "0":
+    if b not in ("0", "0x00"):
         yield "compared", tokens[at].start, tokens[second - 1].end, f"leb {a} {b}"
     yield "compared", tokens[at].start, tokens[second - 1].end, f"leb {b} {a}"
 

@@ -3,6 +3,8 @@ import collections
 import pathlib
 import sys
 
+import trials
+
 KINDS = {
     "number": "a constant one higher or lower",
     "compared": "< for ≤ and the other way round, = loosened to ≤ either way",
@@ -76,12 +78,16 @@ def write_down(root, outcomes):
         log.writelines(f"{outcome.word} | {outcome.by} | {change.kind} | {change.key()}\n" for change, outcome in outcomes.items())
 
 
-def settled(root):
-    """The changes that the log has as refused, or as no rule."""
+def settled(root, found):
+    """The changes that the log has as refused, or as no rule, with what it says."""
     if not log_of(root).is_file():
         sys.exit("tests/rules/try: target/rules-tried.txt is not there: nothing was tried yet")
-    lines = [line.rstrip("\n").split(" | ", 3) for line in log_of(root).open(encoding="utf-8")]
-    return {key for word, _, _, key in lines if word in ("refused", "no-rule")}
+    known = {}
+    for line in log_of(root).read_text(encoding="utf-8").splitlines():
+        word, by, kind, key = line.split(" | ", 3)
+        if word in ("refused", "no-rule"):
+            known[kind, key] = trials.Outcome(word, by)
+    return {c: known[c.kind, c.key()] for c in found if (c.kind, c.key()) in known}
 
 
 def tell(root, found, outcomes, whole):

@@ -44,6 +44,8 @@ pub record SectionOrder : Type 0 where
       ∷ hex "C4 70 00 00 01 00 00 00 03"
       ∷ [])
       ≡ 8 ∷ 7 ∷ 7 ∷ 8 ∷ 8 ∷ 9 ∷ 9 ∷ []
+  -- its zero bits are the high two of byte 1 and the high three of byte 3, and no other bit of these bytes
+  pub header-bits : body (hex "C2 3F 00 1F 01 00 01 93 03 E5 00 00") ≡ 0
   -- a record of each kind that is short, has a zero bit set and a value out of its limits; then not short; then with its zero bits 0
   pub order-carriers :
       map (λ r. body (hex "C2 30 00 00 01 01 01" ++ r)) (hex "00 40 00 00" ∷ hex "00 40 00 00 00" ∷ hex "00 00 00 00 00" ∷ [])
@@ -104,6 +106,7 @@ section-order =
       three-above = refl;
       order-header = refl;
       order-map = refl;
+      header-bits = refl;
       order-carriers = refl;
       order-modes = refl;
       order-channels = refl;
