@@ -11,9 +11,10 @@ a theorem, or a part of one as THEOREM.PART. A declaration that was refused only
 count, and nor does one that names something which isn't there. Of one edit no two answers name the same place.
 
 It also holds docs/PROMISES.md to the tree: every label is named there, and how many there are; and every public function, those of
-public modules too, has its theorem in proofs/Determined.antt, which says `Determined` of it but for the exceptions below. Run it
-behind rt ci or rt must-fail, in the repository's root.
+public modules too, has two wrong answers that it refuses itself, and its theorem in proofs/Determined.antt, which says `Determined` of it
+but for the exceptions below. Run it behind rt ci or rt must-fail, in the repository's root.
 """
+import collections
 import pathlib
 import re
 import sys
@@ -98,8 +99,8 @@ def refused_by_theorem(theorem, found, copy):
 
 
 def each_refused(root, edits):
-    """The labels, each with its crate."""
-    labels = []
+    """The labels, each with its crate, and how many wrong answers each function or theorem refused."""
+    labels, refusing = [], collections.Counter()
     for edit in edits:
         crate = edit.parts[-3]
         copy = root / "target" / "must-fail" / crate / edit.stem
@@ -120,7 +121,8 @@ def each_refused(root, edits):
                     refused = refused_by_function(crate, place, found, log)
                 if not refused:
                     fail(f"{crate}/{label} was not refused by {place}: see {log}")
-    return labels
+                refusing[crate, place.rsplit("::", 1)[-1]] += 1
+    return labels, refusing
 
 
 def public_functions(source):
@@ -130,8 +132,8 @@ def public_functions(source):
     return PUBLIC.findall("\n".join([text] + [module.read_text(encoding="utf-8") for module in modules]))
 
 
-def promised(root, labels, edits):
-    """docs/PROMISES.md names every label and says how many there are; every public function is determined."""
+def promised(root, labels, refusing, edits):
+    """docs/PROMISES.md names every label and says how many there are; every public function refuses two wrong answers and is determined."""
     promises = (root / "docs" / "PROMISES.md").read_text(encoding="utf-8")
     for crate, label in labels:
         # of code, in a line that speaks of the crate or one of its functions
@@ -148,6 +150,8 @@ def promised(root, labels, edits):
             says = "" if (crate, function) in BY_MEANING else " Determined "
             if not theorems.is_file() or f"pub {function}-determined :{says}" not in theorems.read_text(encoding="utf-8"):
                 fail(f"{theorems} has no {function}-determined, or it doesn't say 'Determined'")
+            if refusing[crate, function] < 2:
+                fail(f"{crate}::{function} has fewer than two wrong answers that it refuses itself")
             functions += 1
     if not re.search(rf"\b{functions} public functions", promises):
         fail(f"docs/PROMISES.md does not speak of 'the {functions} public functions'")
@@ -159,8 +163,8 @@ def main():
     edits = sorted(root.glob("crates/*/must-fail/*.edit"))
     if not edits:
         fail("no must-fail edits here: run it in the repository's root")
-    labels = each_refused(root, edits)
-    functions = promised(root, labels, edits)
+    labels, refusing = each_refused(root, edits)
+    functions = promised(root, labels, refusing, edits)
     print(f"tests/edits: {len(labels)} wrong answers in {len(edits)} edits, each refused where it should be; {functions} functions determined")
 
 
