@@ -102,6 +102,10 @@ pub record TuningClauses : Type 0 where
   pub nineteen-zero :
       lookUp (record { carriers = carriersAt 0 (hex "03 80 30 81 C8"); modes = []; channels = eightAnalogue 0; ranges = rangeAt 7 (hex "83") }) 8
       ≡ Tuned.Refused 19
+  -- reference 1 is the lowest that there is
+  pub nineteen-one :
+      lookUp (record { carriers = carriersAt 1 (hex "01 80 30 81 C8"); modes = []; channels = eightAnalogue 1; ranges = rangeAt 7 (hex "83") }) 8
+      ≡ Tuned.Analogue 0 0 57000 2 0
   pub nineteen-first : lookUp (small (eight 0 0)) 8 ≡ Tuned.Refused 19
   -- 20: both ends, by one kHz
   pub twenty : map (λ khz. asNumber (inReach khz)) (53999 ∷ 54000 ∷ 54001 ∷ 1001999 ∷ 1002000 ∷ 1002001 ∷ []) ≡ 0 ∷ 1 ∷ 1 ∷ 1 ∷ 1 ∷ 0 ∷ []
@@ -145,6 +149,7 @@ tuning-clauses =
       seventeen-order = refl;
       nineteen = refl;
       nineteen-zero = refl;
+      nineteen-one = refl;
       nineteen-first = refl;
       twenty = refl;
       twenty-one = refl;
