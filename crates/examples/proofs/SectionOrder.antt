@@ -76,6 +76,13 @@ pub record SectionOrder : Type 0 where
       ∷ hex "01 80 01 FF 93 03 E5 00 00"
       ∷ [])
       ≡ 8 ∷ 11 ∷ 8 ∷ 8 ∷ 8 ∷ 11 ∷ 8 ∷ 0 ∷ []
+  -- a record count that is too large: the closing list is read as records, here of carriers with an index above 255, and of a mode with zero bits set
+  pub order-count :
+      map body
+      (hex "C2 30 00 00 C8 02 01 01 00 00 15 18 00 93 03 E5 00 00"
+      ∷ hex "C2 30 00 00 01 02 02 2F 08 00 4D 29 AD 00 93 63 E5 00 00 00"
+      ∷ [])
+      ≡ 10 ∷ 9 ∷ []
   -- descriptors-included: without it no count stands behind a channel record, with it one does
   pub order-included :
       map (λ head. body (head ++ hex "00 00 00 00 00 01 00 03 00 12 34 02 00 03 01 00 93 03 E5 00 00"))
@@ -112,6 +119,7 @@ section-order =
       order-channels = refl;
       order-ranges = refl;
       order-lists = refl;
+      order-count = refl;
       order-included = refl;
       eleven = refl;
     }
