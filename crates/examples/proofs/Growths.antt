@@ -277,6 +277,15 @@ pub revision-grows : GrownRevision (d 0x93 "E5 01 03") (d 0x93 "05 01 03 AA")
 unfolding computed
 revision-grows = record { was = refl; is = refl; long = omega arith; longer = omega arith; version = refl; number = refl; last = refl }
 
+-- a revision descriptor that gets no byte more; a record whose first index is not the count
+pub revision-stays : GrownRevision (d 0x93 "E5 01 03") (d 0x93 "05 01 03")
+unfolding computed
+revision-stays = record { was = refl; is = refl; long = omega arith; longer = omega arith; version = refl; number = refl; last = refl }
+
+pub mode-shaped : Shaped Mms (parts 0xC2 0x30 (hex "00 07 01 02") (p "2F 08 00 4D 29 AD" [] ∷ []))
+unfolding computed
+mode-shaped = record { front = refl; sized = (refl, λ e. absurd (differ e), tt); count = refl }
+
 pub included-shaped : Shaped Vcm (parts 0xC4 0x30 (hex "00 00 00 00 20 00 00 00 00 00 01") (channel1 (d 0x80 "" ∷ [])))
 unfolding computed
 included-shaped = record { front = refl; sized = (refl, λ e. absurd (differ e), tt); count = refl }
