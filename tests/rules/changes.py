@@ -25,7 +25,7 @@ DECLARED = re.compile(r"^ *(?:unfoldable|abbrev) pub (?P<name>\S+)|^pub (?P<kind
 OPERATORS = {"+": "-", "-": "+", "*": "+", "/": "%", "%": "/", "^": "*"}
 COMPARED = {"leb": "ltb", "ltb": "leb"}
 TESTED = {"cond", "unless", "needs"}
-ENDS = {")", "}", ";", ",", "∷", "++", "≡", "→", "in"}
+ENDS = {";", ",", "∷", "++", "≡", "→", "in", "&&", "||", "="}
 NEIGHBOURS = {
     "Cds": "Mms", "Mms": "Vcm", "Vcm": "Dcm", "Dcm": "Cds", "true": "false", "false": "true", "OtherMap": "Repeat",
     "Repeat": "OtherMap", "Stored": "Live", "Live": "Stored",
@@ -102,12 +102,10 @@ def atom_end(tokens, at):
 def operand(tokens, at, step):
     """The index of the last token of what stands on one side of the && or || at a token."""
     depth, i = 0, at + step
+    opens, closes = (("(", "{"), (")", "}"))[::step]
     while 0 <= i < len(tokens):
         text = tokens[i].text
-        opens, closes = ("(", "{"), (")", "}")
-        if step < 0:
-            opens, closes = closes, opens
-        if depth == 0 and (text in closes or text in ENDS or text in ("&&", "||", "=") or text.endswith(".")):
+        if depth == 0 and (text in closes or text in ENDS or text.endswith(".")):
             break
         depth += (text in opens) - (text in closes)
         i += step
@@ -173,7 +171,9 @@ def token_changes(text, tokens, at, structs, arguments):
     if word.startswith('"'):
         yield from other_letter(token)
     elif NUMBER.fullmatch(word):
-        yield from number_changes(token)
+        # in braces stands the level of a type, which is no rule
+        if at == 0 or tokens[at - 1].text != "{":
+            yield from number_changes(token)
     elif word in COMPARED:
         yield "compared", token.start, token.end, COMPARED[word]
     elif word == "eqb":

@@ -22,8 +22,8 @@ HEAD = """# Changed rules
 
 What `tests/rules/try` last said. It makes small changes of the rules (`crates/rules/specs`), one at a time, and asks the prover of each whether the computed
 facts still hold: those of `crates/examples` and, in `crates/rules/proofs`, `Examples` and `Readings`. It tries them on a copy that has the rules and these facts
-alone, so that no proof script that merely breaks counts as a refusal. Of a change that is *no rule* the text is no definition (its types do not fit). One
-that is *alike* is refused by no fact because it means the same; the reasons are below.
+alone, so that no proof script that merely breaks counts as a refusal. A change that is *no rule* takes a neighbour of another type, so that the text is no
+definition. One that is *alike* is refused by no fact because it means the same; the reasons are below.
 
 """
 
@@ -94,6 +94,8 @@ def tell(root, found, outcomes, whole):
     reasons = alike_list(pathlib.Path(__file__).resolve().parent)
     alike = {c.key() for c in found if outcomes[c].word == "alike"}
     faults = [f"no fact refuses: {key}" for key in sorted(alike) if key not in reasons]
+    # a neighbour can be of another type; any other change gives a definition again, or it was made wrongly
+    faults += [f"no rule, but it should be one: {c.key()}" for c in found if outcomes[c].word == "no-rule" and c.kind not in ("field", "argument")]
     faults += [f"the prover gave no answer ({outcomes[c].by}): {c.key()}" for c in found if outcomes[c].word == "no-answer"]
     if whole:
         faults += [f"in alike.txt, and refused or no longer there: {key}" for key in reasons if key not in alike]
