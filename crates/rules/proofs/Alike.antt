@@ -1,84 +1,43 @@
--- Two boxes are alike where they have the same state and what is live or held says the same in both, but for what stands in closing
--- lists. Holding and tuning look at nothing else, so they answer alike, tune alike, and stay alike, whatever is offered to the one and,
--- grown or not, to the other.
-use Prim.Native.Nat.{ℕ, zero, suc, _-_, _<_, _≤_}
+-- Two boxes of a collector are alike where they have the same state and what is live or held says the same in both, but for what gathering
+-- does not look at. So they answer alike and stay alike, whatever is offered to the one and, grown or not, to the other.
+use Prim.Native.Nat.{ℕ, _-_, _<_, _≤_}
 use native.Mathlib.Omega.{arith}
 use mathlib.Core.Path.{_≡_, refl, sym, ap, subst, _∙_}
 use mathlib.Core.Bool.{Bool, true, false, cond, _&&_}
 use mathlib.Core.Logic.{_⊎_, inl, inr}
-use mathlib.Core.List.{List, []}
+use mathlib.Core.List.{List, [], _∷_}
 use lib.ListN.{length}
-use lib.Dec.{leb, eqb}
+use lib.Dec.{eqb}
 use borrow.Author.Tests.{eqb-true, eqb-false, eq-eqb}
-use Rattle.rules.specs.Section.{Structure, Content, Reading, wrong, right, readSection}
-use Rattle.rules.specs.Holding.{limitOf, indexOf, placeOf, sectionAt, storeSize, holdingOf, liveAt, noneGathered, holds, allOf, holdingFormed, wellFormed, heldWith, goneLive, gathering, stepOf, otherMap, offeredAs, offered, takesIn, Box, answerTo, boxAfter}
-use Rattle.rules.specs.Tuning.{allLive, liveCount, liveReading, readsAs, every, placeReads, tableReads, allRead, carriersIn, modesIn, channelsIn, rangesIn, recordsIn, liveSection, liveRecords, plant, needs, lookUp, tune}
-use Rattle.rules.specs.Growth.{Grown, same}
-use Rattle.rules.specs.declared.Table.{Table}
-use Rattle.rules.specs.declared.Table.the-variants.{Cds, Mms, Vcm, Dcm}
+use Rattle.rules.specs.Section.{ReadingOf, wrong, right}
+use Rattle.rules.specs.Steps.{noneLive, noneGathered, freshHolding, holds, allOf, holdingFormed, heldWith, goneLive, gathering, stepOf, takesIn}
+use Rattle.rules.specs.Gathering.{Collector, BoxOf, Outcome, placeOf, sectionAt, offeredAs, offered, answerTo, boxAfter, run, answers}
 use Rattle.rules.specs.declared.Holding.{Holding}
-use Rattle.rules.specs.declared.State.{State}
 use Rattle.rules.specs.declared.Revision.{Revision}
-use Rattle.rules.specs.declared.Offered.{Offered}
+use Rattle.rules.specs.declared.Answer.{Answer}
 use Rattle.rules.proofs.Right.{one-right}
 use Rattle.rules.proofs.Taken.{differ}
 use Rattle.rules.proofs.Held.{holds-all}
 use Rattle.rules.proofs.Formed.{formed}
 use Rattle.rules.proofs.Steps.{held-before, Taking, taken-cases}
-use Rattle.rules.proofs.States.{same-table, table-formed}
+use Rattle.rules.proofs.Lawful.{Lawful, same-table}
 use Rattle.rules.proofs.Offers.{TakenIn, taken-in, untouched, limit-kept, formed-kept, others-kept, step-holds}
 use Rattle.rules.proofs.Kept.{length-kept}
-use Rattle.rules.proofs.LiveRecords.{same-sections}
-use Rattle.rules.proofs.LivePlaces.{live-says}
 use Rattle.rules.proofs.Faithful.{live-low, gathered-low, gathered-named}
 use Rattle.rules.proofs.Placed.{isPlace, place-after}
-use Rattle.rules.proofs.Grown.{withClosing, grown-reads}
 
--- ---- what a reading says but for its closing list
+-- ---- what a reading says but for what gathering does not look at
 
-unfoldable pub unclosed : Reading → Reading
-unclosed (wrong n) = wrong n
-unclosed (right c) = right (withClosing c [])
+unfoldable pub plain : {C : Type 0} → (C → C) → ReadingOf C → ReadingOf C
+plain bare (wrong n) = wrong n
+plain bare (right c) = right (bare c)
 
--- two sections say the same but for their closing lists
-pub record SaySame (s g : List ℕ) : Type 0 where
-  pub same : unclosed (readSection g) ≡ unclosed (readSection s)
-
--- a section that has grown says the same
-pub grown-says : (s g : List ℕ) → Grown s g → SaySame s g
-unfolding unclosed
-grown-says s g w = record { same = rw (grown-reads s g w, w .reads) refl }
-
--- holding and tuning look at nothing else
-offered-unclosed : (s : State) (r : Reading) → offeredAs s (unclosed r) ≡ offeredAs s r
-unfolding offeredAs unclosed otherMap
-offered-unclosed s (wrong n) = refl
-offered-unclosed s (right c) = refl
-
-reads-unclosed : (s : State) (t : Table) (n : ℕ) (r : Reading) → readsAs s t n (unclosed r) ≡ readsAs s t n r
-unfolding readsAs unclosed
-reads-unclosed s t n (wrong k) = refl
-reads-unclosed s t n (right c) = refl
-
-records-unclosed : {R : Type 0} (records : Structure → List R) (r : Reading) → recordsIn records (unclosed r) ≡ recordsIn records r
-unfolding recordsIn unclosed
-records-unclosed records (wrong k) = refl
-records-unclosed records (right c) = refl
-
--- so that where two sections say the same, it comes to the same
-by-unclosed : {X : Type 0} (f : Reading → X) → ((r : Reading) → f (unclosed r) ≡ f r) → {s g : List ℕ} → SaySame s g → f (readSection g) ≡ f (readSection s)
-by-unclosed f blind {s} {g} w = sym (blind (readSection g)) ∙ ap f (w .same) ∙ blind (readSection s)
-
-offered-same : (s : State) (size : ℕ) {x y : List ℕ} → SaySame x y → offered s size y ≡ offered s size x
-unfolding offered
-offered-same s size w = rw (by-unclosed (offeredAs s) (offered-unclosed s) w) refl
-
-right-same : (x y : List ℕ) (c d : Content) → readSection x ≡ right c → readSection y ≡ right d → SaySame x y → (d .table ≡ c .table) × (d .revision ≡ c .revision)
-unfolding unclosed
-right-same x y c d ex ey w =
-    let e : right (withClosing d []) ≡ right (withClosing c []) = ap unclosed (sym ey) ∙ w .same ∙ ap unclosed ex in
-    let k : withClosing d [] ≡ withClosing c [] = cc in
-    (ap (λ (z : Content). z .table) k, ap (λ (z : Content). z .revision) k)
+-- a content bared of it is of the same table and revision, and set aside by the same word
+pub record Bared {T S C : Type 0} (co : Collector T S C) (bare : C → C) : Type 0 where
+  pub table : (c : C) → co .table (bare c) ≡ co .table c
+  pub revision : (c : C) → co .revision (bare c) ≡ co .revision c
+  pub aside : (s : S) (c : C) → co .aside s (bare c) ≡ co .aside s c
+  pub word : (s : S) (c : C) → co .word s (bare c) ≡ co .word s c
 
 -- ---- two boxes alike
 
@@ -86,12 +45,6 @@ right-same x y c d ex ey w =
 abbrev pub Occupied : Holding → (half n : ℕ) → Type 0
 Occupied h half n =
     ((h .live .present ≡ 1) × (half ≡ h .half) × (n ≤ h .live .last)) ⊎ ((h .gathered .present ≡ 1) × (half ≡ 1 - h .half) × (holds (h .gathered .held) n ≡ true))
-
-pub record Alike (b c : Box) : Type 0 where
-  pub state : c .state ≡ b .state
-  pub size : length (c .store) ≡ length (b .store)
-  pub places : (t : Table) (half n : ℕ) → Occupied (holdingOf (b .state) t) half n
-      → SaySame (sectionAt (b .store) (placeOf (limitOf (b .state)) t half n)) (sectionAt (c .store) (placeOf (limitOf (b .state)) t half n))
 
 -- it lies in the store
 occupied-low : (limit : ℕ) (h : Holding) (half n : ℕ) → holdingFormed limit h ≡ true → Occupied h half n → (half < 2) × (n < limit)
@@ -126,112 +79,139 @@ module _ (h : Holding) (r : Revision) (limit : ℕ) (k : Taking h r limit) (half
       more (inl live) = inr (inl live)
       more (inr (gathered, is, held)) = held-place is held
 
-pub alike-itself : (b : Box) → Alike b b
-alike-itself b = record { state = refl; size = refl; places = λ t half n o. record { same = refl } }
+-- or of nothing
+pub itself : {T S C : Type 0} (co : Collector T S C) → Bared co (λ c. c)
+itself co = record { table = λ c. refl; revision = λ c. refl; aside = λ s c. refl; word = λ s c. refl }
 
--- an occupied place that is not the section's was occupied before
-module _ (b : Box) (x : List ℕ) (c : Content) (k : TakenIn b x c) (t : Table) (half n : ℕ) where
-  was-occupied : Occupied (holdingOf (boxAfter b x .state) t) half n → isPlace (b .state) (c .table) (c .revision .number) t half n ≡ false → Occupied (holdingOf (b .state) t) half n
-  unfolding isPlace
-  was-occupied o away = go (same-table (c .table) t)
+module _ {T S C : Type 0} (co : Collector T S C) (bare : C → C) where
+  open Collector co using (index as indexOf, holding as holdingOf, limit as limitOf, read as readSection, table as tableOf, revision as revisionOf)
+
+  -- two sections say the same but for that
+  pub record SaySame (s g : List ℕ) : Type 0 where
+    pub same : plain bare (readSection g) ≡ plain bare (readSection s)
+
+  pub same-itself : (s : List ℕ) → SaySame s s
+  same-itself s = record { same = refl }
+
+  -- whatever is blind to it comes to the same
+  pub by-plain : {X : Type 0} (f : ReadingOf C → X) → ((r : ReadingOf C) → f (plain bare r) ≡ f r) → {s g : List ℕ} → SaySame s g → f (readSection g) ≡ f (readSection s)
+  by-plain f blind {s} {g} w = sym (blind (readSection g)) ∙ ap f (w .same) ∙ blind (readSection s)
+
+  pub record Alike (b c : BoxOf S) : Type 0 where
+    pub state : c .state ≡ b .state
+    pub size : length (c .store) ≡ length (b .store)
+    pub places : (t : T) (half n : ℕ) → Occupied (holdingOf (b .state) t) half n
+        → SaySame (sectionAt co (b .store) (placeOf co (limitOf (b .state)) t half n)) (sectionAt co (c .store) (placeOf co (limitOf (b .state)) t half n))
+
+  pub alike-itself : (b : BoxOf S) → Alike b b
+  alike-itself b = record { state = refl; size = refl; places = λ t half n o. same-itself _ }
+
+  -- sections that say the same, one by one
+  pub data Paired : List (List ℕ) → List (List ℕ) → Type 0 where
+    none : Paired [] []
+    pair : {x y : List ℕ} {xs ys : List (List ℕ)} → SaySame x y → Paired xs ys → Paired (x ∷ xs) (y ∷ ys)
+
+  pub each-itself : (xs : List (List ℕ)) → Paired xs xs
+  each-itself [] = none
+  each-itself (x ∷ xs) = pair (same-itself x) (each-itself xs)
+
+  -- where nothing is live or held it does not matter what stands in the store
+  pub fresh-alike : (start : S) (store other : List ℕ) → ((t : T) → holdingOf start t ≡ freshHolding) → length other ≡ length store
+      → Alike (record { state = start; store = store }) (record { state = start; store = other })
+  unfolding freshHolding noneLive noneGathered
+  fresh-alike start store other fresh e = record { state = refl; size = e; places = λ t half n o. absurd (empty (rw (fresh t) at o)) }
     where
-      own : (u : Table) → c .table ≡ u → ((half ≡ 1 - holdingOf (b .state) u .half) × (n ≡ c .revision .number)) ⊎ Occupied (holdingOf (b .state) u) half n
-          → (eqb (indexOf (c .table)) (indexOf u) && eqb (1 - holdingOf (b .state) (c .table) .half) half && eqb (c .revision .number) n) ≡ false → Occupied (holdingOf (b .state) u) half n
-      own u q (inr before) out = before
-      own u q (inl (is, number)) out =
-          let here = ap (λ (z : Table). 1 - holdingOf (b .state) z .half) q ∙ sym is in
-          absurd (differ (simp (eq-eqb (indexOf (c .table)) (indexOf u) (ap indexOf q), eq-eqb (1 - holdingOf (b .state) (c .table) .half) half here, eq-eqb (c .revision .number) n (sym number)) at out))
+      empty : {half n : ℕ} → Occupied freshHolding half n → ⊥
+      empty (inl (live, is, le)) = omega (arith, live)
+      empty (inr (gathered, is, held)) = omega (arith, gathered)
 
-      go : (c .table ≡ t) ⊎ (c .table ≡ t → ⊥) → Occupied (holdingOf (b .state) t) half n
-      go (inl q) =
-          let stepped = subst (λ (u : Table). Occupied (holdingOf (boxAfter b x .state) u) half n) (sym q) o in
-          let before = occupied-before (holdingOf (b .state) (c .table)) (c .revision) (limitOf (b .state)) (k .taking) half n (rw (step-holds b x c (k .passed)) at stepped) in
-          own t q (subst (λ (u : Table). ((half ≡ 1 - holdingOf (b .state) u .half) × (n ≡ c .revision .number)) ⊎ Occupied (holdingOf (b .state) u) half n) q before) away
-      go (inr ne) =
-          rw (others-kept b x t (record { other = λ d e q. ne (ap (λ (z : Content). z .table) (one-right (sym (k .passed .reads) ∙ e)) ∙ q) })) at o
+  module _ (law : Lawful co) (blind : Bared co bare) where
+    open Lawful law using (table-formed)
 
-either : (p : Bool) {x y u v : List ℕ} → SaySame x y → (p ≡ false → SaySame u v) → SaySame (cond p x u) (cond p y v)
-either true w v = w
-either false w v = v refl
+    offered-plain : (s : S) (r : ReadingOf C) → offeredAs co s (plain bare r) ≡ offeredAs co s r
+    unfolding offeredAs plain
+    offered-plain s (wrong n) = refl
+    offered-plain s (right c) = rw (blind .aside s c, blind .word s c, blind .table c, blind .revision c) refl
 
--- one offer
-module _ (b c : Box) (x y : List ℕ) (a : Alike b c) (w : SaySame x y) where
-  offer-alike : offered (c .state) (length (c .store)) y ≡ offered (b .state) (length (b .store)) x
-  offer-alike = rw (a .state, a .size) (offered-same (b .state) (length (b .store)) w)
+    offered-same : (s : S) (size : ℕ) {x y : List ℕ} → SaySame x y → offered co s size y ≡ offered co s size x
+    unfolding offered
+    offered-same s size w = rw (by-plain (offeredAs co s) (offered-plain s) w) refl
 
-  pub answer-alike : answerTo c y ≡ answerTo b x
-  unfolding answerTo
-  answer-alike = ap (λ (o : Offered). o .answer) offer-alike
+    right-same : (x y : List ℕ) (c d : C) → readSection x ≡ right c → readSection y ≡ right d → SaySame x y → (tableOf d ≡ tableOf c) × (revisionOf d ≡ revisionOf c)
+    unfolding plain
+    right-same x y c d ex ey w =
+        let k : bare d ≡ bare c = one-right (ap (plain bare) (sym ey) ∙ w .same ∙ ap (plain bare) ex) in
+        (sym (blind .table d) ∙ ap (λ (z : C). tableOf z) k ∙ blind .table c, sym (blind .revision d) ∙ ap (λ (z : C). revisionOf z) k ∙ blind .revision c)
 
-  state-alike : boxAfter c y .state ≡ boxAfter b x .state
-  unfolding boxAfter
-  state-alike = ap (λ (o : Offered). o .state) offer-alike
+    -- an occupied place that is not the section's was occupied before
+    module _ (b : BoxOf S) (x : List ℕ) (c : C) (k : TakenIn co b x c) (t : T) (half n : ℕ) where
+      was-occupied : Occupied (holdingOf (boxAfter co b x .state) t) half n → isPlace co (b .state) (tableOf c) (revisionOf c .number) t half n ≡ false → Occupied (holdingOf (b .state) t) half n
+      unfolding isPlace
+      was-occupied o away = go (same-table co law (tableOf c) t)
+        where
+          own : (u : T) → tableOf c ≡ u → ((half ≡ 1 - holdingOf (b .state) u .half) × (n ≡ revisionOf c .number)) ⊎ Occupied (holdingOf (b .state) u) half n
+              → (eqb (indexOf (tableOf c)) (indexOf u) && eqb (1 - holdingOf (b .state) (tableOf c) .half) half && eqb (revisionOf c .number) n) ≡ false → Occupied (holdingOf (b .state) u) half n
+          own u q (inr before) out = before
+          own u q (inl (is, number)) out =
+              let here = ap (λ (z : T). 1 - holdingOf (b .state) z .half) q ∙ sym is in
+              absurd (differ (simp (eq-eqb (indexOf (tableOf c)) (indexOf u) (ap indexOf q), eq-eqb (1 - holdingOf (b .state) (tableOf c) .half) half here, eq-eqb (revisionOf c .number) n (sym number)) at out))
 
-  -- where both were taken in they stand in the same place
-  places-alike : (d e : Content) → TakenIn b x d → TakenIn c y e → (t : Table) (half n : ℕ) → Occupied (holdingOf (boxAfter b x .state) t) half n
-      → SaySame (sectionAt (boxAfter b x .store) (placeOf (limitOf (b .state)) t half n)) (sectionAt (boxAfter c y .store) (placeOf (limitOf (b .state)) t half n))
-  places-alike d e k l t half n o =
-      let both = right-same x y d e (k .passed .reads) (l .passed .reads) w in
-      let lies = occupied-low (limitOf (boxAfter b x .state)) (holdingOf (boxAfter b x .state) t) half n (table-formed (boxAfter b x .state) t (formed-kept b x (k .passed .good))) o in
-      let low : n < limitOf (b .state) = rw (limit-kept b x) at (lies .1) in
-      let there =
-      subst (λ (z : State). sectionAt (boxAfter c y .store) (placeOf (limitOf z) t half n) ≡ cond (isPlace z (e .table) (e .revision .number) t half n) y (sectionAt (c .store) (placeOf (limitOf z) t half n)))
-      (a .state) (place-after c y e l t half n (lies .0) (rw (a .state) low)) in
-      rw (place-after b x d k t half n (lies .0) low, there, both .0, both .1)
-      (either (isPlace (b .state) (d .table) (d .revision .number) t half n) w (λ away. a .places t half n (was-occupied b x d k t half n o away)))
+          go : (tableOf c ≡ t) ⊎ (tableOf c ≡ t → ⊥) → Occupied (holdingOf (b .state) t) half n
+          go (inl q) =
+              let now = subst (λ (u : T). Occupied (holdingOf (boxAfter co b x .state) u) half n) (sym q) o in
+              let before = occupied-before (holdingOf (b .state) (tableOf c)) (revisionOf c) (limitOf (b .state)) (k .taking) half n (rw (step-holds co law b x c (k .passed)) at now) in
+              own t q (subst (λ (u : T). ((half ≡ 1 - holdingOf (b .state) u .half) × (n ≡ revisionOf c .number)) ⊎ Occupied (holdingOf (b .state) u) half n) q before) away
+          go (inr ne) =
+              rw (others-kept co law b x t (record { other = λ d e q. ne (ap (λ (z : C). tableOf z) (one-right (sym (k .passed .reads) ∙ e)) ∙ q) })) at o
 
-  pub alike-after : Alike (boxAfter b x) (boxAfter c y)
-  alike-after = go (takesIn (answerTo b x)) refl
-    where
-      go : (taken : Bool) → takesIn (answerTo b x) ≡ taken → Alike (boxAfter b x) (boxAfter c y)
-      go false e = rw (untouched b x e, untouched c y (ap takesIn answer-alike ∙ e)) a
-      go true e =
-          let k = taken-in b x e .1 in
-          let l = taken-in c y (ap takesIn answer-alike ∙ e) .1 in
-          record {
-            state = state-alike;
-            size = length-kept c y ∙ a .size ∙ sym (length-kept b x);
-            places = λ t half n o. rw (limit-kept b x) (places-alike _ _ k l t half n o);
-          }
+    either : (p : Bool) {x y u v : List ℕ} → SaySame x y → (p ≡ false → SaySame u v) → SaySame (cond p x u) (cond p y v)
+    either true w v = w
+    either false w v = v refl
 
--- ---- tuning
+    -- one offer
+    module _ (b c : BoxOf S) (x y : List ℕ) (a : Alike b c) (w : SaySame x y) where
+      offer-alike : offered co (c .state) (length (c .store)) y ≡ offered co (b .state) (length (b .store)) x
+      offer-alike = rw (a .state, a .size) (offered-same (b .state) (length (b .store)) w)
 
-every-same : (n : ℕ) (f g : ℕ → Bool) → ((k : ℕ) → k < n → f k ≡ g k) → every n f ≡ every n g
-unfolding every
-every-same zero f g e = refl
-every-same (suc n) f g e = rw (every-same n f g (λ k lt. e k (omega arith)), e n (omega arith)) refl
+      pub answer-alike : answerTo co c y ≡ answerTo co b x
+      unfolding answerTo
+      answer-alike = ap (λ (o : Outcome S). o .answer) offer-alike
 
-module _ (b c : Box) (a : Alike b c) where
-  abbrev s : State
-  s = b .state
+      state-alike : boxAfter co c y .state ≡ boxAfter co b x .state
+      unfolding boxAfter
+      state-alike = ap (λ (o : Outcome S). o .state) offer-alike
 
-  module _ (live : allLive s ≡ true) where
-    live-alike : (t : Table) (n : ℕ) → n < liveCount s t → SaySame (sectionAt (b .store) (liveAt s t n)) (sectionAt (c .store) (liveAt s t n))
-    unfolding liveCount liveAt
-    live-alike t n lt = a .places t (holdingOf s t .half) n (inl (live-says s live .live t, refl, omega arith))
+      -- where both were taken in they stand in the same place
+      places-alike : (d e : C) → TakenIn co b x d → TakenIn co c y e → (t : T) (half n : ℕ) → Occupied (holdingOf (boxAfter co b x .state) t) half n
+          → SaySame (sectionAt co (boxAfter co b x .store) (placeOf co (limitOf (b .state)) t half n)) (sectionAt co (boxAfter co c y .store) (placeOf co (limitOf (b .state)) t half n))
+      places-alike d e k l t half n o =
+          let both = right-same x y d e (k .passed .reads) (l .passed .reads) w in
+          let lies = occupied-low (limitOf (boxAfter co b x .state)) (holdingOf (boxAfter co b x .state) t) half n (table-formed (boxAfter co b x .state) t (formed-kept co law b x (k .passed .good))) o in
+          let low : n < limitOf (b .state) = rw (limit-kept co law b x) at (lies .1) in
+          let there =
+          subst (λ (z : S). sectionAt co (boxAfter co c y .store) (placeOf co (limitOf z) t half n) ≡ cond (isPlace co z (tableOf e) (revisionOf e .number) t half n) y (sectionAt co (c .store) (placeOf co (limitOf z) t half n)))
+          (a .state) (place-after co law c y e l t half n (lies .0) (rw (a .state) low)) in
+          rw (place-after co law b x d k t half n (lies .0) low, there, both .0, both .1)
+          (either (isPlace co (b .state) (tableOf d) (revisionOf d .number) t half n) w (λ away. a .places t half n (was-occupied b x d k t half n o away)))
 
-    table-alike : (t : Table) → tableReads s (c .store) t ≡ tableReads s (b .store) t
-    unfolding tableReads placeReads liveReading
-    table-alike t = every-same (liveCount s t) _ _ (λ n lt. by-unclosed (readsAs s t n) (reads-unclosed s t n) (live-alike t n lt))
+      pub alike-after : Alike (boxAfter co b x) (boxAfter co c y)
+      alike-after = go (takesIn (answerTo co b x)) refl
+        where
+          go : (taken : Bool) → takesIn (answerTo co b x) ≡ taken → Alike (boxAfter co b x) (boxAfter co c y)
+          go false e = rw (untouched co law b x e, untouched co law c y (ap takesIn answer-alike ∙ e)) a
+          go true e =
+              let k = taken-in co law b x e .1 in
+              let l = taken-in co law c y (ap takesIn answer-alike ∙ e) .1 in
+              record {
+                state = state-alike;
+                size = length-kept co law c y ∙ a .size ∙ sym (length-kept co law b x);
+                places = λ t half n o. rw (limit-kept co law b x) (places-alike _ _ k l t half n o);
+              }
 
-    records-alike : {R : Type 0} (records : Structure → List R) (t : Table) → liveRecords records s (c .store) t ≡ liveRecords records s (b .store) t
-    unfolding liveRecords liveSection liveReading
-    records-alike records t = same-sections _ _ (liveCount s t) 0 (λ n lt. by-unclosed (recordsIn records) (records-unclosed records) (live-alike t n (omega arith)))
-
-    read-alike : allRead s (c .store) ≡ allRead s (b .store)
-    unfolding allRead
-    read-alike = rw (table-alike Cds, table-alike Mms, table-alike Vcm, table-alike Dcm) refl
-
-    plant-alike : plant s (c .store) ≡ plant s (b .store)
-    unfolding plant
-    plant-alike = rw (records-alike carriersIn Cds, records-alike modesIn Mms, records-alike channelsIn Vcm, records-alike rangesIn Dcm) refl
-
-  pub tune-alike : (number : ℕ) → tune (c .state) (c .store) number ≡ tune s (b .store) number
-  unfolding tune needs
-  tune-alike number = rw (a .state, a .size) (go (allLive s) refl)
-    where
-      go : (live : Bool) → allLive s ≡ live
-          → needs (leb (storeSize (limitOf s)) (length (b .store))) 1 (needs (wellFormed s) 2 (needs (leb number 4095) 14 (needs live 15 (needs (allRead s (c .store)) 16 (lookUp (plant s (c .store)) number)))))
-          ≡ needs (leb (storeSize (limitOf s)) (length (b .store))) 1 (needs (wellFormed s) 2 (needs (leb number 4095) 14 (needs live 15 (needs (allRead s (b .store)) 16 (lookUp (plant s (b .store)) number)))))
-      go false e = refl
-      go true e = rw (read-alike e, plant-alike e) refl
+    -- a run
+    pub run-alike : {ss gs : List (List ℕ)} → Paired ss gs → (b c : BoxOf S) → Alike b c → (answers co c gs ≡ answers co b ss) × Alike (run co b ss) (run co c gs)
+    unfolding run answers
+    run-alike none b c a = (refl, a)
+    run-alike (pair {x} {y} w g) b c a =
+        let more = run-alike g (boxAfter co b x) (boxAfter co c y) (alike-after b c x y a w) in
+        (rw (answer-alike b c x y a w, more .0) refl, more .1)

@@ -21,6 +21,8 @@ pub mod Places  -- where in a section its parts stand
 pub mod Numbers  -- which numbers a refusal can have
 -- ---- holding and going live
 pub mod Offering  -- what an offer answers, told in words
+pub mod Gathers  -- all that is promised of gathering, of every lawful collector
+pub mod OfBox  -- all of the following, said of the box
 pub mod Offers  -- what an offer leaves as it was, and what its answer tells
 pub mod Kept  -- the store after an offer
 pub mod Placed  -- what stands in the places after an offer
@@ -29,7 +31,8 @@ pub mod GoingLive  -- sections 0 to last, in any order
 pub mod Faithful  -- what the state says of the store is so
 pub mod Steps  -- steps 2 to 6, on one table
 pub mod Formed  -- a holding that is well formed
-pub mod States  -- the tables of a state
+pub mod Lawful  -- what is asked of a collector
+pub mod States  -- the box is one: the tables of a state
 pub mod Held  -- the numbers held, as bits
 pub mod Store  -- places, and bytes put into them
 -- ---- from number to tuner
@@ -41,7 +44,8 @@ pub mod Lowest  -- the lowest section first
 pub mod Search  -- the one fact that the four searches share
 -- ---- growth, and other runs that come to the same
 pub mod SameRuns  -- growth, and what stood in the store, change nothing
-pub mod Alike  -- two boxes that answer and tune alike
+pub mod TunesAlike  -- two boxes alike tune alike
+pub mod Alike  -- two boxes of a collector that answer alike
 pub mod Grown  -- a grown section reads as it did
 pub mod Again  -- several growths are one
 pub mod Parted  -- a section that reads right, in its parts

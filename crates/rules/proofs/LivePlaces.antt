@@ -13,7 +13,7 @@ use Rattle.rules.specs.declared.Table.{Table}
 use Rattle.rules.specs.declared.Table.the-variants.{Cds, Mms, Vcm, Dcm}
 use Rattle.rules.specs.declared.State.{State}
 use Rattle.rules.proofs.Taken.{differ, both-left, both-right}
-use Rattle.rules.proofs.Store.{same-index}
+use Rattle.rules.proofs.States.{same-index}
 
 -- the place of section n of a live table reads right as that section; CDS and MMS have no map number
 pub record Reads (s : State) (store : List ℕ) (t : Table) (n : ℕ) : Type 0 where

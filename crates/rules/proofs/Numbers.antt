@@ -14,7 +14,9 @@ use Rattle.rules.specs.Descriptors.{Descriptor, descriptor, passed, coun
 use Rattle.rules.specs.Layout.{Layout, bare, entry, after, records, head}
 use Rattle.rules.specs.Tables.{cds, mms, vcmHead, vcm, dcmHead, dcm}
 use Rattle.rules.specs.Section.{given, headerWhole, header, structure, revision, Content, contentOf, content, whole, Reading, wrong, right, read, readSection, checkOf, check, askedOf, ask}
-use Rattle.rules.specs.Holding.{limitOf, storeSize, holdingOf, wellFormed, allOf, otherLast, isRepeat, goneLive, gathering, liveOrStored, heldWith, stepOf, otherMap, stepped, offeredAs, offered, Box, answerTo}
+use Rattle.rules.specs.Gathering as Gathering
+use Rattle.rules.specs.Gathering.{Outcome}
+use Rattle.rules.specs.Holding.{limitOf, storeSize, holdingOf, wellFormed, allOf, otherLast, isRepeat, goneLive, gathering, liveOrStored, heldWith, stepOf, otherMap, stepped, offeredAs, offered, Box, answerTo, box}
 use Rattle.rules.specs.Tuning.{Plant, plant, found, hidden, tuneSignal, tuneKhz, tuneCarrier, tuneChannel, lookUp, tune}
 use Rattle.rules.specs.declared.Table.{Table}
 use Rattle.rules.specs.declared.Table.the-variants.{Cds, Mms, Vcm, Dcm}
@@ -208,25 +210,25 @@ step-number limit h r = go (leb limit (r .last)) (otherLast h r) (isRepeat h r) 
     go false false false false = tt
 
 offered-as-number : (s : State) (section : List ℕ) (r : Reading) → readSection section ≡ r → Answers (offeredAs s r .answer)
-unfolding offeredAs stepped
+unfolding Gathering.offeredAs Gathering.stepped
 offered-as-number s section (wrong n) e = let low = read-number section n e in (omega (arith, low .0), omega (arith, low .1))
 offered-as-number s section (right c) e = go (otherMap s c)
   where
-    go : (b : Bool) → Answers (cond {A = Offered} b (record { answer = OtherMap; state = s }) (stepped s (c .table) (stepOf (limitOf s) (holdingOf s (c .table)) (c .revision))) .answer)
+    go : (b : Bool) → Answers (cond {A = Outcome State} b (record { answer = OtherMap; state = s }) (Gathering.stepped box s (c .table) (stepOf (limitOf s) (holdingOf s (c .table)) (c .revision))) .answer)
     go true = tt
     go false = step-number (limitOf s) (holdingOf s (c .table)) (c .revision)
 
 offered-number : (s : State) (size : ℕ) (section : List ℕ) → Answers (offered s size section .answer)
-unfolding offered
+unfolding Gathering.offered
 offered-number s size section = go (ltb size (storeSize (limitOf s))) (wellFormed s)
   where
-    go : (a b : Bool) → Answers (cond {A = Offered} a (record { answer = Refused 1; state = s }) (cond (not b) (record { answer = Refused 2; state = s }) (offeredAs s (readSection section))) .answer)
+    go : (a b : Bool) → Answers (cond {A = Outcome State} a (record { answer = Refused 1; state = s }) (cond (not b) (record { answer = Refused 2; state = s }) (Gathering.offeredAs box s (readSection section))) .answer)
     go true b = (omega arith, omega arith)
     go false false = (omega arith, omega arith)
     go false true = offered-as-number s section (readSection section) refl
 
 pub offer-number : (b : Box) (section : List ℕ) (n : ℕ) → answerTo b section ≡ Refused n → OfOffer n
-unfolding answerTo
+unfolding Gathering.answerTo
 offer-number b section n e = subst Answers e (offered-number (b .state) (length (b .store)) section)
 
 -- ---- tuning: 1, 2, and 14 to 21

@@ -4,6 +4,8 @@ pub mod Descriptors
 pub mod Layout
 pub mod Tables
 pub mod Section
+pub mod Steps
+pub mod Gathering
 pub mod Holding
 pub mod Search
 pub mod Tuning

@@ -20,7 +20,7 @@ use Rattle.rules.specs.declared.Tuned.the-variants as Tuned
 use Rattle.rules.proofs.Taken.{differ}
 use Rattle.rules.proofs.Formed.{formed}
 use Rattle.rules.proofs.States.{table-formed}
-use Rattle.rules.proofs.LiveRecords.{last-low}
+use Rattle.rules.proofs.Placed.{last-low}
 use Rattle.rules.proofs.LivePlaces.{every-at, four-at}
 use Rattle.search.specs.Live.{Live}
 use Rattle.tuner.specs.Checks.{checks, Few}
