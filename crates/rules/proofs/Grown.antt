@@ -6,13 +6,13 @@ use mathlib.Core.Path.{_≡_, refl, sym, ap, _∙_}
 use mathlib.Core.Bool.{Bool, true, false, cond}
 use mathlib.Core.List.{List, [], _∷_, _++_}
 use lib.ListN.{length, length-append, List·getD-append}
-use lib.Seq.{take-at, drop-at, drop-append-le, getD-take}
+use lib.Seq.{drop-at, drop-append-le, getD-take}
 use lib.Dec.{eqb}
 use borrow.Author.Tests.{le-leb, lt-ltb, eq-eqb, ne-eqb}
 use Rattle.rules.specs.Bytes.{Got, got, unless, andThen, giving, byte, from}
 use Rattle.rules.specs.Crc.{crcOf}
 use Rattle.rules.specs.Descriptors.{Descriptor, closing, bodies}
-use Rattle.rules.specs.Layout.{Layout, Numbered, numbered, bare, records, head}
+use Rattle.rules.specs.Layout.{Layout, extent, Numbered, numbered, bare, records, head}
 use Rattle.rules.specs.Tables.{cds, mms, vcmHead, vcm, dcmHead, dcm}
 use Rattle.rules.specs.Section.{Structure, carriers, modes, channels, ranges, structure, mediumAt, given, headerWhole, header, mapOf, revisionTag, revision, Content, contentOf, content, withoutCrc, right, readSection}
 use Rattle.rules.specs.Growth.{Piece, Parts, shape, Sized, Shaped, encoded, area, bytesOf, FullerPieces, GrownRevision, GrownClosing, GrownParts, Grown, empty, stays, added, other, revised}
@@ -20,7 +20,7 @@ use Rattle.rules.specs.declared.VcmHead.{VcmHead}
 use Rattle.rules.specs.declared.DcmHead.{DcmHead}
 use Rattle.rules.specs.declared.Table.{Table}
 use Rattle.rules.specs.declared.Table.the-variants.{Cds, Mms, Vcm, Dcm}
-use Rattle.rules.proofs.Taken.{unless-got, giving-got}
+use Rattle.rules.proofs.Taken.{unless-got, giving-got, own-extent, own-taken, own-left}
 use Rattle.rules.proofs.Places.{from-length}
 use Rattle.rules.proofs.Right.{header-facts, Made, made, fitting-long, Whole, whole-got, whole-so}
 use Rattle.rules.proofs.Encoded.{closing-encoded, records-grown}
@@ -36,7 +36,7 @@ withClosing c ds = record { table = c .table; map = c .map; structure = c .struc
 pub record Laid (t : Table) (front : List ℕ) : Type 1 where
   pub R : Type 0
   pub layout : Layout R
-  pub size : shape t front .size ≡ layout .size
+  pub size : shape t front .size ≡ extent layout
   pub described : shape t front .described ≡ layout .described
   pub good : Bool
   pub index : ℕ
@@ -50,18 +50,18 @@ unfolding byte from
 counted-reads l says front rest a b c n = rw (List·getD-append front rest 0 1 (omega (arith, n)), List·getD-append front rest 0 2 (omega (arith, n)), drop-at front rest 4 n)
 
 -- VCM and DCM: they stand in the head, which has no limits of its own
-head-reads : {R : Type 0} (l : Layout R) (f : R → List ℕ → Got Structure) (own rest : List ℕ) → length own ≡ l .size → l .fair 0 (l .look own) ≡ true
+head-reads : {R : Type 0} (l : Layout R) (f : R → List ℕ → Got Structure) (own rest : List ℕ) → length own ≡ extent l own → l .fair 0 (l .look own) ≡ true
     → andThen (head l (own ++ rest)) f ≡ unless (l .zeros own) 9 (f (l .look own) rest)
 unfolding head bare numbered from unless giving andThen
 head-reads {R} l f own rest n fair =
-    let fits : l .size ≤ length (own ++ rest) = omega (arith, n, length-append own rest) in
-    rw (le-leb _ _ fits, take-at own rest (l .size) n, drop-at own rest (l .size) n, fair) (go (l .zeros own))
+    let fits : extent l (own ++ rest) ≤ length (own ++ rest) = omega (arith, n, own-extent l own rest n, length-append own rest) in
+    rw (le-leb _ _ fits, own-taken l own rest n, own-left l own rest n, fair) (go (l .zeros own))
   where
     go : (z : Bool) → andThen (giving (λ (h : Numbered R). h .what) (unless z 9 (got (record { index = 0; what = l .look own }) rest))) f ≡ unless z 9 (f (l .look own) rest)
     go true = refl
     go false = refl
 
-headed-reads : {R : Type 0} (l : Layout R) (f : R → List ℕ → Got Structure) (front rest : List ℕ) (a b c : ℕ) → length front ≡ 4 + l .size → l .fair 0 (l .look (from front 4)) ≡ true
+headed-reads : {R : Type 0} (l : Layout R) (f : R → List ℕ → Got Structure) (front rest : List ℕ) (a b c : ℕ) → length front ≡ 4 + extent l (from front 4) → l .fair 0 (l .look (from front 4)) ≡ true
     → andThen (head l (from (a ∷ b ∷ c ∷ (front ++ rest)) 7)) f ≡ unless (l .zeros (from front 4)) 9 (f (l .look (from front 4)) rest)
 unfolding from
 headed-reads l f front rest a b c n fair = rw (drop-append-le 4 front rest (omega (arith, n))) (head-reads l f (from front 4) rest (omega (arith, n, from-length front 4)) fair)
@@ -80,7 +80,7 @@ laid Dcm front n =
     record { R = _; layout = dcm; size = refl; described = refl; good = dcmHead .zeros (from front 4); index = h .first; says = ranges h; reads = λ a b c rest. headed-reads dcmHead _ front rest a b c n refl }
 
 -- the shape's size, list and count are the layout's
-shaped-grown : {R : Type 0} (l : Layout R) (size : ℕ) (described : Bool) (count : ℕ) → size ≡ l .size → described ≡ l .described → {ps qs : List Piece} → FullerPieces ps qs → Sized size described ps → length ps ≡ count → length qs ≡ count
+shaped-grown : {R : Type 0} (l : Layout R) (size : List ℕ → ℕ) (described : Bool) (count : ℕ) → size ≡ extent l → described ≡ l .described → {ps qs : List Piece} → FullerPieces ps qs → Sized size described ps → length ps ≡ count → length qs ≡ count
     → (index : ℕ) (x y : List ℕ) (rs : List (Numbered R)) (rest : List ℕ) → records l count index (area described ps ++ x) ≡ got rs rest → (rest ≡ x) × (records l count index (area described qs ++ y) ≡ got rs y)
 shaped-grown l size described count a b f s n m index x y rs rest e =
     let r = records-grown l f (rw (a, b) at s) index x y rs rest (rw (b, ← n) at e) in

@@ -8,16 +8,16 @@ use mathlib.Core.Option.{some}
 use mathlib.Core.List.{List, [], _∷_, _++_, append-assoc}
 use lib.ListN.{length, take, List·getD-append}
 use lib.Dec.{ltb, eqb}
-use lib.Seq.{take-at, drop-at, drop-append-le}
+use lib.Seq.{drop-at, drop-append-le}
 use Rattle.rules.specs.Bytes.{got, andThen, giving, byte, from}
 use Rattle.rules.specs.Descriptors.{closing, bodies}
-use Rattle.rules.specs.Layout.{Layout, Numbered, numbered, entry, after, records, head}
+use Rattle.rules.specs.Layout.{Layout, extent, Numbered, numbered, entry, after, records, head}
 use Rattle.rules.specs.Tables.{cds, mms, vcmHead, vcm, dcmHead, dcm}
 use Rattle.rules.specs.Section.{mediumAt, named, mapOf, revisionTag, Structure, carriers, modes, channels, ranges, structure, Content, withoutCrc, right, readSection}
 use Rattle.rules.specs.Growth.{Piece, Parts, shape, Sized, Shaped, encoded, pieceBytes, area, bytesOf, end, next}
 use Rattle.rules.specs.declared.Table.{Table}
 use Rattle.rules.specs.declared.Table.the-variants.{Cds, Mms, Vcm, Dcm}
-use Rattle.rules.proofs.Taken.{then-got, giving-got, head-got, taken}
+use Rattle.rules.proofs.Taken.{then-got, giving-got, own-taken, own-left, head-got, taken}
 use Rattle.rules.proofs.Places.{from-length}
 use Rattle.rules.proofs.Right.{header-facts, ReadFrom, read-from, reads-right}
 use Rattle.rules.proofs.Encoded.{closing-encoded, records-grown}
@@ -53,14 +53,14 @@ Fair Dcm p = let h = dcmHead .look (from (p .front) 4) in FairFrom dcm (h .first
 -- ---- records, over every layout
 
 -- a piece begins with its own bytes
-own-first : (d : Bool) (p : Piece) (x : List ℕ) → (y : List ℕ) × (pieceBytes d p ++ x ≡ p .own ++ y)
+pub own-first : (d : Bool) (p : Piece) (x : List ℕ) → (y : List ℕ) × (pieceBytes d p ++ x ≡ p .own ++ y)
 unfolding pieceBytes
 own-first false p x = (x, refl)
 own-first true p x = (_, append-assoc (p .own) (length (p .list) ∷ encoded (p .list)) x)
 
 module _ {R : Type 0} (l : Layout R) where
   -- what a record leaves is what stands behind its piece: growth by nothing
-  entry-left : (index : ℕ) (p : Piece) (x : List ℕ) (e : Numbered R) (rest : List ℕ) → length (p .own) ≡ l .size → (l .described ≡ false → p .list ≡ [])
+  entry-left : (index : ℕ) (p : Piece) (x : List ℕ) (e : Numbered R) (rest : List ℕ) → length (p .own) ≡ extent l (p .own) → (l .described ≡ false → p .list ≡ [])
       → entry l index (pieceBytes (l .described) p ++ x) ≡ got e rest → rest ≡ x
   unfolding records area andThen giving
   entry-left index p x e rest n none g =
@@ -68,17 +68,17 @@ module _ {R : Type 0} (l : Layout R) where
       records-grown l (next refl (list-itself (p .list)) end) (n, none, tt) index x x (e ∷ []) rest one .0
 
   -- and what it says is what its own bytes say
-  entry-said : (index : ℕ) (p : Piece) (x : List ℕ) (e : Numbered R) (rest : List ℕ) → length (p .own) ≡ l .size → entry l index (pieceBytes (l .described) p ++ x) ≡ got e rest
+  entry-said : (index : ℕ) (p : Piece) (x : List ℕ) (e : Numbered R) (rest : List ℕ) → length (p .own) ≡ extent l (p .own) → entry l index (pieceBytes (l .described) p ++ x) ≡ got e rest
       → (e ≡ record { index = index; what = l .look (p .own) }) × (l .zeros (p .own) ≡ true) × (l .fair index (l .look (p .own)) ≡ true)
   unfolding numbered
   entry-said index p x e rest n g =
       let t = taken l index _ e rest g in
       let o = own-first (l .described) p x in
-      let own : take (l .size) (pieceBytes (l .described) p ++ x) ≡ p .own = ap (take (l .size)) (o .1) ∙ take-at (p .own) (o .0) (l .size) n in
+      let own : take (extent l (pieceBytes (l .described) p ++ x)) (pieceBytes (l .described) p ++ x) ≡ p .own = ap (λ (y : List ℕ). take (extent l y) y) (o .1) ∙ own-taken l (p .own) (o .0) n in
       (t .is ∙ ap (λ (r : List ℕ). record { index = index; what = l .look r }) own, ap (l .zeros) (sym own) ∙ t .zeros, ap (λ (r : List ℕ). l .fair index (l .look r)) (sym own) ∙ t .fair)
 
   -- so many records that were read from pieces
-  pub records-said : (ps : List Piece) → Sized (l .size) (l .described) ps → (index : ℕ) (x : List ℕ) (rs : List (Numbered R)) (rest : List ℕ)
+  pub records-said : (ps : List Piece) → Sized (extent l) (l .described) ps → (index : ℕ) (x : List ℕ) (rs : List (Numbered R)) (rest : List ℕ)
       → records l (length ps) index (area (l .described) ps ++ x) ≡ got rs rest → (rest ≡ x) × (rs ≡ saidFrom l index ps) × FairFrom l index ps
   unfolding records area saidFrom after
   records-said [] s index x rs rest e = (cc, cc, tt)
@@ -92,7 +92,7 @@ module _ {R : Type 0} (l : Layout R) where
       (others .0, more .2 ∙ ap (λ (r : Numbered R). r ∷ more .0) (one .0) ∙ ap (λ (qs : List (Numbered R)). record { index = index; what = l .look (p .own) } ∷ qs) (others .1), (one .1, one .2, others .2))
 
   -- the structure that they make
-  structure-said : (says : List (Numbered R) → Structure) (n index : ℕ) (ps : List Piece) (x : List ℕ) (made : Structure) (rest : List ℕ) → Sized (l .size) (l .described) ps → length ps ≡ n
+  structure-said : (says : List (Numbered R) → Structure) (n index : ℕ) (ps : List Piece) (x : List ℕ) (made : Structure) (rest : List ℕ) → Sized (extent l) (l .described) ps → length ps ≡ n
       → giving says (records l n index (area (l .described) ps ++ x)) ≡ got made rest → (rest ≡ x) × (made ≡ says (saidFrom l index ps)) × FairFrom l index ps
   structure-said says n index ps x made rest s c e =
       let g = giving-got _ _ _ _ e in
@@ -103,7 +103,7 @@ module _ {R : Type 0} (l : Layout R) where
 
 -- CDS and MMS: index and count stand in the header
 counted-said : {R : Type 0} (l : Layout R) (says : ℕ → List (Numbered R) → Structure) (front : List ℕ) (ps : List Piece) (x : List ℕ) (made : Structure) (rest : List ℕ) (a b c : ℕ)
-    → length front ≡ 4 → Sized (l .size) (l .described) ps → length ps ≡ byte 2 front
+    → length front ≡ 4 → Sized (extent l) (l .described) ps → length ps ≡ byte 2 front
     → let bs : List ℕ = a ∷ b ∷ c ∷ (front ++ (area (l .described) ps ++ x)) in giving (says (byte 4 bs)) (records l (byte 5 bs) (byte 4 bs) (from bs 7)) ≡ got made rest
     → (rest ≡ x) × (made ≡ says (byte 1 front) (saidFrom l (byte 1 front) ps)) × FairFrom l (byte 1 front) ps
 unfolding byte from
@@ -113,15 +113,15 @@ counted-said l says front ps x made rest a b c n s m e =
     (rw (List·getD-append front tail 0 1 (omega (arith, n)), List·getD-append front tail 0 2 (omega (arith, n)), drop-at front tail 4 n) at e)
 
 -- VCM and DCM: they stand in the head, which is all that is in front of the records behind the header
-head-said : {H : Type 0} (k : Layout H) (front y : List ℕ) (h : H) (behind : List ℕ) (a b c : ℕ) → length front ≡ 4 + k .size → head k (from (a ∷ b ∷ c ∷ (front ++ y)) 7) ≡ got h behind → (h ≡ k .look (from front 4)) × (behind ≡ y)
+head-said : {H : Type 0} (k : Layout H) (front y : List ℕ) (h : H) (behind : List ℕ) (a b c : ℕ) → length front ≡ 4 + extent k (from front 4) → head k (from (a ∷ b ∷ c ∷ (front ++ y)) 7) ≡ got h behind → (h ≡ k .look (from front 4)) × (behind ≡ y)
 unfolding from
 head-said k front y h behind a b c n e =
     let g = head-got k (from front 4 ++ y) h behind (rw (drop-append-le 4 front y (omega (arith, n))) at e) in
-    let own : length (from front 4) ≡ k .size = omega (arith, n, from-length front 4) in
-    (g .1 ∙ ap (k .look) (take-at (from front 4) y (k .size) own), g .2 ∙ drop-at (from front 4) y (k .size) own)
+    let own : length (from front 4) ≡ extent k (from front 4) = omega (arith, n, from-length front 4) in
+    (g .1 ∙ ap (k .look) (own-taken k (from front 4) y own), g .2 ∙ own-left k (from front 4) y own)
 
 headed-said : {H R : Type 0} (k : Layout H) (l : H → Layout R) (count first : H → ℕ) (says : H → List (Numbered R) → Structure) (front : List ℕ) (ps : List Piece) (x : List ℕ) (made : Structure) (rest : List ℕ) (a b c : ℕ)
-    → let h : H = k .look (from front 4) in length front ≡ 4 + k .size → Sized (l h .size) (l h .described) ps → length ps ≡ count h
+    → let h : H = k .look (from front 4) in length front ≡ 4 + extent k (from front 4) → Sized (extent (l h)) (l h .described) ps → length ps ≡ count h
     → andThen (head k (from (a ∷ b ∷ c ∷ (front ++ (area (l h .described) ps ++ x))) 7)) (λ h behind. giving (says h) (records (l h) (count h) (first h) behind)) ≡ got made rest
     → (rest ≡ x) × (made ≡ says h (saidFrom (l h) (first h) ps)) × FairFrom (l h) (first h) ps
 headed-said k l count first says front ps x made rest a b c n s m e =
@@ -135,7 +135,7 @@ headed-said k l count first says front ps x made rest a b c n s m e =
 
 -- the structure that is read from parts is the one that they say, and what it leaves is their closing list
 parts-said : (t : Table) (p : Parts) → Shaped t p → (made : Structure) (rest : List ℕ) → structure t (bytesOf t p) ≡ got made rest → (rest ≡ encoded (p .closing)) × (made ≡ said t p) × Fair t p
-unfolding structure bytesOf shape said
+unfolding structure bytesOf shape said vcmHead dcmHead
 parts-said Cds p s made rest e = counted-said cds carriers (p .front) (p .pieces) _ made rest _ _ _ (s .front) (s .sized) (s .count) e
 parts-said Mms p s made rest e = counted-said mms modes (p .front) (p .pieces) _ made rest _ _ _ (s .front) (s .sized) (s .count) e
 parts-said Vcm p s made rest e = headed-said vcmHead (λ h. vcm (h .included)) (λ h. h .count) (λ h. 0) channels (p .front) (p .pieces) _ made rest _ _ _ (s .front) (s .sized) (s .count) e

@@ -12,7 +12,7 @@ use lib.Dec.{leb}
 use borrow.Author.Tests.{leb-true, leb-false}
 use Rattle.rules.specs.Bytes.{Got, refused, got, unless, andThen, giving, byte, from}
 use Rattle.rules.specs.Descriptors.{Descriptor, descriptor, passed, counted}
-use Rattle.rules.specs.Layout.{Layout, bare, entry, after, records, head}
+use Rattle.rules.specs.Layout.{Layout, extent, bare, entry, after, records, head}
 use Rattle.rules.specs.Tables.{cds, mms, vcmHead, vcm, dcmHead, dcm}
 use Rattle.rules.specs.Section.{Structure, carriers, modes, channels, ranges, structure}
 use Rattle.rules.specs.declared.Table.{Table}
@@ -122,7 +122,7 @@ ends-counted true bs = ends-unless bs _ 8 _ (ends-from bs 1 (passed (byte 0 bs) 
 module _ {R : Type 0} (l : Layout R) where
   ends-bare : (index : ℕ) (bs : List ℕ) → Ends (bare l index bs) bs
   unfolding bare
-  ends-bare index bs = ends-unless bs _ 8 _ (ends-unless bs _ 9 _ (ends-unless bs _ 10 _ (l .size, refl)))
+  ends-bare index bs = ends-unless bs _ 8 _ (ends-unless bs _ 9 _ (ends-unless bs _ 10 _ (extent l bs, refl)))
 
   ends-records : (n index : ℕ) (bs : List ℕ) → Ends (records l n index bs) bs
   unfolding records entry from

@@ -1,15 +1,16 @@
 -- Taking apart: where something was got, each test on the way was passed. Stated once, for every layout.
-use Prim.Native.Nat.{ℕ, zero, suc, _≤_}
+use Prim.Native.Nat.{ℕ, zero, suc, _+_, _≤_}
 use native.Mathlib.Omega.{arith}
 use mathlib.Core.Path.{_≡_, refl, sym, ap, _∙_}
 use mathlib.Core.Bool.{Bool, true, false}
-use mathlib.Core.List.{List, _∷_}
+use mathlib.Core.List.{List, _∷_, _++_}
 use mathlib.Core.Option.{Option, none, some}
 use lib.ListN.{length, take}
+use lib.Seq.{length-take-le, take-append-le, take-take, take-at, drop-at}
 use borrow.Author.Tests.{le-leb, leb-true}
 use Rattle.rules.specs.Bytes.{Got, refused, got, unless, andThen, giving, from}
 use Rattle.rules.specs.Descriptors.{counted}
-use Rattle.rules.specs.Layout.{Layout, Numbered, numbered, bare, entry, after, records, head}
+use Rattle.rules.specs.Layout.{Layout, extent, Numbered, numbered, bare, entry, after, records, head}
 use Rattle.rules.specs.Section.{given}
 pub use Rattle.rules.proofs.Truths.{differ, not-so, both-left, both-right, neither-left, neither-right}
 
@@ -39,17 +40,33 @@ unfolding given
 given-got none n f b rest e = let z : _≡_ {A = ℕ} 0 1 = cc in absurd (omega arith)
 given-got (some a) n f b rest e = (a, e, refl)
 
+-- a record's own bytes say how many they are, whatever stands behind them
+module _ {R : Type 0} (l : Layout R) (own rest : List ℕ) (n : length own ≡ extent l own) where
+  pub own-extent : extent l (own ++ rest) ≡ extent l own
+  own-extent = ap (λ (r : List ℕ). l .size + l .more r) (take-append-le (l .size) own rest (omega (arith, n)))
+
+  pub own-taken : take (extent l (own ++ rest)) (own ++ rest) ≡ own
+  own-taken = take-at own rest (extent l (own ++ rest)) (n ∙ sym own-extent)
+
+  pub own-left : from (own ++ rest) (extent l (own ++ rest)) ≡ rest
+  unfolding from
+  own-left = drop-at own rest (extent l (own ++ rest)) (n ∙ sym own-extent)
+
+-- and those of a record that is whole are such bytes
+pub own-whole : {R : Type 0} (l : Layout R) (bs : List ℕ) → extent l bs ≤ length bs → length (take (extent l bs) bs) ≡ extent l (take (extent l bs) bs)
+own-whole l bs h = length-take-le (extent l bs) bs h ∙ ap (λ (r : List ℕ). l .size + l .more r) (sym (take-take (l .size) (extent l bs) bs (omega arith)))
+
 -- a record that was taken
 pub record Taken {R : Type 0} (l : Layout R) (index : ℕ) (bs : List ℕ) (e : Numbered R) (rest : List ℕ) : Type 0 where
-  pub fits : l .size ≤ length bs
-  pub zeros : l .zeros (take (l .size) bs) ≡ true
-  pub fair : l .fair index (l .look (take (l .size) bs)) ≡ true
+  pub fits : extent l bs ≤ length bs
+  pub zeros : l .zeros (take (extent l bs) bs) ≡ true
+  pub fair : l .fair index (l .look (take (extent l bs) bs)) ≡ true
   pub is : e ≡ numbered l index bs
-  pub behind : counted (l .described) (from bs (l .size)) ≡ got tt rest
+  pub behind : counted (l .described) (from bs (extent l bs)) ≡ got tt rest
 
 module _ {R : Type 0} (l : Layout R) where
   pub bare-got : (index : ℕ) (bs : List ℕ) (e : Numbered R) (rest : List ℕ) → bare l index bs ≡ got e rest
-      → (l .size ≤ length bs) × (l .zeros (take (l .size) bs) ≡ true) × (l .fair index (l .look (take (l .size) bs)) ≡ true) × (e ≡ numbered l index bs) × (rest ≡ from bs (l .size))
+      → (extent l bs ≤ length bs) × (l .zeros (take (extent l bs) bs) ≡ true) × (l .fair index (l .look (take (extent l bs) bs)) ≡ true) × (e ≡ numbered l index bs) × (rest ≡ from bs (extent l bs))
   unfolding bare
   bare-got index bs e rest q =
       let a = unless-got _ _ _ _ _ q in
@@ -59,7 +76,7 @@ module _ {R : Type 0} (l : Layout R) where
       (leb-true _ _ (a .0), b .0, c .0, cc, cc)
 
   -- a head that was got has its own bytes, and what is left stands behind them
-  pub head-got : (bs : List ℕ) (h : R) (rest : List ℕ) → head l bs ≡ got h rest → (l .size ≤ length bs) × (h ≡ l .look (take (l .size) bs)) × (rest ≡ from bs (l .size))
+  pub head-got : (bs : List ℕ) (h : R) (rest : List ℕ) → head l bs ≡ got h rest → (extent l bs ≤ length bs) × (h ≡ l .look (take (extent l bs) bs)) × (rest ≡ from bs (extent l bs))
   unfolding head numbered
   head-got bs h rest e =
       let g = giving-got _ _ _ _ e in
@@ -74,7 +91,7 @@ module _ {R : Type 0} (l : Layout R) where
       let g = giving-got _ _ _ _ (t .more) in
       record { fits = b .0; zeros = b .1; fair = b .2; is = g .2 ∙ b .3; behind = ap (counted (l .described)) (sym (b .4)) ∙ g .1 }
 
-  pub bare-so : (index : ℕ) (bs : List ℕ) → l .size ≤ length bs → l .zeros (take (l .size) bs) ≡ true → l .fair index (l .look (take (l .size) bs)) ≡ true → bare l index bs ≡ got (numbered l index bs) (from bs (l .size))
+  pub bare-so : (index : ℕ) (bs : List ℕ) → extent l bs ≤ length bs → l .zeros (take (extent l bs) bs) ≡ true → l .fair index (l .look (take (extent l bs) bs)) ≡ true → bare l index bs ≡ got (numbered l index bs) (from bs (extent l bs))
   unfolding bare unless
   bare-so index bs h z f = rw (le-leb _ _ h, z, f)
 

@@ -10,6 +10,7 @@ use lib.ListN.{length}
 use Rattle.rules.specs.Bytes.{byte, from}
 use Rattle.rules.specs.Crc.{crcOf}
 use Rattle.rules.specs.Descriptors.{Descriptor}
+use Rattle.rules.specs.Layout.{extent}
 use Rattle.rules.specs.Tables.{cds, mms, vcmHead, vcm, dcmHead, dcm}
 use Rattle.rules.specs.Section.{revisionTag, Content, right, readSection, fitting, withoutCrc}
 use Rattle.rules.specs.declared.Table.{Table}
@@ -65,30 +66,30 @@ pub record Parts : Type 0 where
 -- how many records there are
 pub record Shape : Type 0 where
   pub head : ℕ
-  pub size : ℕ
+  pub size : List ℕ → ℕ
   pub described : Bool
   pub count : ℕ
 
 unfoldable pub shape : Table → (front : List ℕ) → Shape
-shape Cds front = record { head = 0; size = cds .size; described = cds .described; count = byte 2 front }
-shape Mms front = record { head = 0; size = mms .size; described = mms .described; count = byte 2 front }
+shape Cds front = record { head = 0; size = extent cds; described = cds .described; count = byte 2 front }
+shape Mms front = record { head = 0; size = extent mms; described = mms .described; count = byte 2 front }
 shape Vcm front =
     let h = vcmHead .look (from front 4) in
     record {
       head = vcmHead .size;
-      size = vcm (h .included) .size;
+      size = extent (vcm (h .included));
       described = vcm (h .included) .described;
       count = h .count;
     }
 shape Dcm front =
     let h = dcmHead .look (from front 4) in
-    record { head = dcmHead .size; size = dcm .size; described = dcm .described; count = h .length }
+    record { head = dcmHead .size; size = extent dcm; described = dcm .described; count = h .length }
 
 -- each record has its size, and a list only where a descriptor count stands
-abbrev pub Sized : (size : ℕ) → (described : Bool) → List Piece → Type 0
+abbrev pub Sized : (size : List ℕ → ℕ) → (described : Bool) → List Piece → Type 0
 Sized size described [] = Unit {0}
 Sized size described (p ∷ ps) =
-    (length (p .own) ≡ size) × (described ≡ false → p .list ≡ []) × Sized size described ps
+    (length (p .own) ≡ size (p .own)) × (described ≡ false → p .list ≡ []) × Sized size described ps
 
 -- the parts are those of a section of the table
 pub record Shaped (t : Table) (p : Parts) : Type 0 where

@@ -47,6 +47,7 @@ unfoldable pub cds : Layout Carriers
 cds =
     record {
       size = 5;
+      more = λ r. 0;
       zeros = carriersZeros;
       look = carriersOf;
       fair = carriersFair;
@@ -89,7 +90,7 @@ unfoldable pub modeFair : ℕ → Mode → Bool
 modeFair index m = assigned m && leb index 255
 
 unfoldable pub mms : Layout Mode
-mms = record { size = 6; zeros = modeZeros; look = modeOf; fair = modeFair; takes = λ m. 1; described = true }
+mms = record { size = 6; more = λ r. 0; zeros = modeZeros; look = modeOf; fair = modeFair; takes = λ m. 1; described = true }
 
 -- ---- VCM: zero (2), descriptors-included (1), zero (5); splice (1), zero (7); activation time (32); record count (8).
 -- Splice and time are not acted on.
@@ -110,6 +111,7 @@ unfoldable pub vcmHead : Layout VcmHead
 vcmHead =
     record {
       size = 7;
+      more = λ r. 0;
       zeros = vcmHeadZeros;
       look = vcmHeadOf;
       fair = λ index h. true;
@@ -158,6 +160,7 @@ unfoldable pub vcm : (included : ℕ) → Layout Channel
 vcm included =
     record {
       size = 9;
+      more = λ r. 0;
       zeros = channelZeros;
       look = channelOf;
       fair = channelFair;
@@ -177,6 +180,7 @@ unfoldable pub dcmHead : Layout DcmHead
 dcmHead =
     record {
       size = 3;
+      more = λ r. 0;
       zeros = dcmHeadZeros;
       look = dcmHeadOf;
       fair = λ index h. true;
@@ -198,6 +202,7 @@ unfoldable pub dcm : Layout Range
 dcm =
     record {
       size = 1;
+      more = λ r. 0;
       zeros = λ r. true;
       look = rangeOf;
       fair = rangeFair;

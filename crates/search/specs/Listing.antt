@@ -7,7 +7,7 @@ use mathlib.Core.Option.{Option, none, some}
 use lib.ListN.{length, getD, take}
 use lib.Dec.{eqb}
 use Rattle.rules.specs.Bytes.{from}
-use Rattle.rules.specs.Layout.{Numbered}
+use Rattle.rules.specs.Layout.{Numbered, extent}
 use Rattle.rules.specs.Tables.{carriersOf, cds, channelOf, vcm, rangeOf, dcm}
 use Rattle.rules.specs.Search.{first}
 use Rattle.rules.specs.Tuning.{covers, isCarrier, isMode, isChannel, isRange, liveRecords}
@@ -39,7 +39,8 @@ spanOf Dcm index bs =
 unfoldable pub named : (t : Table) → (store : List ℕ) → (entry : ℕ) → Option (Numbered (RecordOf t))
 named t store zero = none
 named t store (suc n) =
-    some (record { index = n / 2 ^ 32; what = layoutOf t 0 .look (take (layoutOf t 0 .size) (from store (n % 2 ^ 32))) })
+    let bs = from store (n % 2 ^ 32) in
+    some (record { index = n / 2 ^ 32; what = layoutOf t 0 .look (take (extent (layoutOf t 0) bs) bs) })
 
 -- each entry names the first live record that goes by its number
 pub record Lists (s : State) (store : List ℕ) (t : Table) (entries : List ℕ) : Type 0 where

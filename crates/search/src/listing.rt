@@ -5,6 +5,7 @@ ghost use Prim.Native.Nat.{_+_, _-_, _%_, _≤_, _<_};
 ghost use lib.ListN.{length, getD};
 ghost use Rattle.rules.specs.Bytes.{from};
 ghost use Rattle.rules.specs.Descriptors.{counted};
+ghost use Rattle.rules.specs.Layout.{extent};
 ghost use Rattle.rules.specs.Tuning.{definedBy};
 ghost use Rattle.rules.specs.declared.Table.the-variants as table;
 ghost use Rattle.fields.specs.Place.{Stands};
@@ -65,8 +66,8 @@ fn span_of(t: Table, b: &[u8], at: usize, index: u32) -> Span
 
 // Over the record at a place, which is there whole, and its descriptors.
 fn past_record(t: Table, b: &[u8], at: usize, included: u8) -> Skip
-    requires { ⌜ layoutOf t included .size ≤ length (now b) - at ⌝ }
-    ensures { λ r. ⌜ Stands (now (b .entry)) r (counted (layoutOf t included .described) (from (now (b .entry)) (at + layoutOf t included .size))) ⌝ }
+    requires { ⌜ extent (layoutOf t included) (from (now b) at) ≤ length (now b) - at ⌝ }
+    ensures { λ r. ⌜ Stands (now (b .entry)) r (counted (layoutOf t included .described) (from (now (b .entry)) (at + extent (layoutOf t included) (from (now (b .entry)) at)))) ⌝ }
 {
     match t {
         Table::Cds => fields::past_counted(b, at + cds::SIZE, true),

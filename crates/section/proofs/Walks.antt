@@ -8,7 +8,7 @@ use mathlib.Core.List.{List, _∷_}
 use lib.ListN.{length}
 use Rattle.rules.specs.Bytes.{Got, refused, got, unless, andThen, giving, from}
 use Rattle.rules.specs.Descriptors.{counted}
-use Rattle.rules.specs.Layout.{Layout, Numbered, numbered, bare, entry, after, records, head}
+use Rattle.rules.specs.Layout.{Layout, extent, Numbered, numbered, bare, entry, after, records, head}
 use Rattle.rules.specs.Tables.{vcmHead, channelFair, vcm, dcmHead}
 use Rattle.rules.specs.Section.{Structure, channels, ranges, structure, recordsAt, countOf}
 use Rattle.rules.specs.declared.Table.{Table}
@@ -87,10 +87,10 @@ outlined t b (outline.Refused n) = structure t b ≡ refused n
 outlined t b (outline.Records k start first count) = Area t b k start first count
 
 -- what a head leaves stands behind its bytes
-head-place : {R : Type 0} (l : Layout R) (b : List ℕ) (h : R) (rest : List ℕ) → 7 ≤ length b → head l (from b 7) ≡ got h rest → (rest ≡ from b (7 + l .size)) × (7 + l .size ≤ length b)
+head-place : {R : Type 0} (l : Layout R) (b : List ℕ) (h : R) (rest : List ℕ) → 7 ≤ length b → head l (from b 7) ≡ got h rest → (rest ≡ from b (7 + extent l (from b 7))) × (7 + extent l (from b 7) ≤ length b)
 head-place l b h rest w e =
     let t = head-got l (from b 7) h rest e in
-    (t .2 ∙ from-from b 7 (l .size), omega (arith, t .0, from-length b 7))
+    (t .2 ∙ from-from b 7 (extent l (from b 7)), omega (arith, t .0, from-length b 7))
 
 module _ {R : Type 0} (f : R → Outline) (g : Got R) where
   pub headed-no : (n : ℕ) → g ≡ refused n → outline.Refused n ≡ headed f g
@@ -103,14 +103,14 @@ module _ {R : Type 0} (f : R → Outline) (g : Got R) where
 
 module _ (b : List ℕ) (w : 7 ≤ length b) where
   vcm-says : (g : Got VcmHead) → head vcmHead (from b 7) ≡ g → outlined Vcm b (headed (λ h. outline.Records (Channels (h .included)) (recordsAt Vcm) 0 (h .count)) g)
-  unfolding structure andThen headed countOf recordsAt layoutOf
+  unfolding structure andThen headed countOf recordsAt layoutOf vcmHead
   vcm-says (refused n) e = rw e
   vcm-says (got h rest) e =
       let p = head-place vcmHead b h rest w e in
       record { same = rw (e, p .0) (giving-giving (channels h) countOf _); behind = refl; within = p .1 }
 
   dcm-says : (g : Got DcmHead) → head dcmHead (from b 7) ≡ g → outlined Dcm b (headed (λ h. outline.Records Ranges (recordsAt Dcm) (h .first) (h .length)) g)
-  unfolding structure andThen headed countOf recordsAt layoutOf
+  unfolding structure andThen headed countOf recordsAt layoutOf dcmHead
   dcm-says (refused n) e = rw e
   dcm-says (got h rest) e =
       let p = head-place dcmHead b h rest w e in

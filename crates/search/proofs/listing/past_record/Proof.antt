@@ -11,7 +11,7 @@ fits : tie.Need-add-past-counted
 unfolding cds
 fits c =
     let f = c .before .before .before in
-    omega (arith, size-as _ Cds (c .enum-told .given .1) _ _ (f .pre))
+    omega (arith, size-as _ Cds (c .enum-told .given .1) _ _ _ (f .pre))
 
 returns : tie.Need-returns
 unfolding cds
@@ -21,7 +21,7 @@ fits-2 : tie.Need-add-past-counted-2
 unfolding mms
 fits-2 c =
     let f = c .before .before .before in
-    omega (arith, size-as _ Mms (c .enum-told2 .given .1) _ _ (f .pre))
+    omega (arith, size-as _ Mms (c .enum-told2 .given .1) _ _ _ (f .pre))
 
 returns-2 : tie.Need-returns-2
 unfolding mms
@@ -31,7 +31,7 @@ fits-3 : tie.Need-add-past-counted-3
 unfolding vcm
 fits-3 c =
     let f = c .before .before .before in
-    omega (arith, size-as _ Vcm (c .enum-told3 .given .1) _ _ (f .pre))
+    omega (arith, size-as _ Vcm (c .enum-told3 .given .1) _ _ _ (f .pre))
 
 returns-3 : tie.Need-returns-3
 unfolding vcm
@@ -41,7 +41,7 @@ fits-4 : tie.Need-add-past-counted-4
 unfolding dcm
 fits-4 c =
     let f = c .before .before .before in
-    omega (arith, size-as _ Dcm (c .enum-told4 .given .1) _ _ (f .pre))
+    omega (arith, size-as _ Dcm (c .enum-told4 .given .1) _ _ _ (f .pre))
 
 returns-4 : tie.Need-returns-4
 unfolding dcm
