@@ -4,15 +4,18 @@ use Prim.Native.Nat.{ℕ}
 use mathlib.Core.Path.{_≡_, refl}
 use mathlib.Core.Bool.{true, false}
 use mathlib.Core.List.{List, [], _∷_, map}
+use lib.ListN.{length}
 use Rattle.rules.specs.Descriptors.{Descriptor}
 use Rattle.rules.specs.Layout.{Numbered}
 use Rattle.rules.specs.Tables.{carriersOf, carrierKhz}
-use Rattle.rules.specs.Section.{carriers, modes, channels, ranges, Content, right, readSection, check}
+use Rattle.rules.specs.Section.{Structure, Content, right, readSection, check}
 use Rattle.rules.specs.Holding.{answers}
 use Rattle.rules.specs.Tuning.{carriersIn, modesIn, channelsIn, rangesIn, recordsIn, Plant, defined, lookUp}
 use Rattle.rules.specs.Lineup.{freshBox}
 use Rattle.rules.specs.declared.Table.the-variants.{Cds, Mms, Vcm, Dcm}
+use Rattle.rules.specs.declared.Carriers.{Carriers}
 use Rattle.rules.specs.declared.Mode.{Mode}
+use Rattle.rules.specs.declared.Channel.{Channel}
 use Rattle.rules.specs.declared.Signal.the-variants.{Digital, Analogue}
 use Rattle.rules.specs.declared.Range.{Range}
 use Rattle.rules.specs.declared.Revision.{Revision}
@@ -21,6 +24,36 @@ use Rattle.rules.specs.declared.Tuned.{Tuned}
 use Rattle.rules.specs.declared.Tuned.the-variants as Tuned
 use Rattle.rules.proofs.Hex.{hex}
 use Rattle.rules.proofs.Computed.{computed}
+
+-- what a section of each table says, field by field: in front of the records, and these
+
+abbrev pub carriers : (first : ℕ) → List (Numbered Carriers) → Structure
+carriers first rs =
+    record {
+      front = record { map = 0; first = first; count = length rs; included = 0; splice = 0; time = 0 };
+      lists = record { carriers = rs; modes = []; channels = []; ranges = [] };
+    }
+
+abbrev pub modes : (first : ℕ) → List (Numbered Mode) → Structure
+modes first rs =
+    record {
+      front = record { map = 0; first = first; count = length rs; included = 0; splice = 0; time = 0 };
+      lists = record { carriers = []; modes = rs; channels = []; ranges = [] };
+    }
+
+abbrev pub channels : (map included splice time : ℕ) → List (Numbered Channel) → Structure
+channels map included splice time rs =
+    record {
+      front = record { map = map; first = 0; count = length rs; included = included; splice = splice; time = time };
+      lists = record { carriers = []; modes = []; channels = rs; ranges = [] };
+    }
+
+abbrev pub ranges : (map first : ℕ) → List (Numbered Range) → Structure
+ranges map first rs =
+    record {
+      front = record { map = map; first = first; count = length rs; included = 0; splice = 0; time = 0 };
+      lists = record { carriers = []; modes = []; channels = []; ranges = rs };
+    }
 
 -- the records that a section of each table says
 abbrev pub said : (cds mms vcm dcm : List ℕ) → Plant
@@ -37,7 +70,6 @@ abbrev pub c1Content : List Descriptor → Revision → Content
 c1Content closing revision =
     record {
       table = Cds;
-      map = 0;
       structure = carriers 1 (record { index = 1; what = record { count = 2; spacing = record { unit = 1; number = 48 }; first = record { unit = 1; number = 456 } } } ∷ []);
       closing = closing;
       revision = revision;
@@ -104,7 +136,7 @@ pub record Examples : Type 0 where
       × (check (hex "C2 30 13 00 02 01 01 FF BF FF FF FF 00 93 03 E5 00 00 8F EC ED 89") ≡ 10)
   -- C7 DCM first 2, `83 05 81`: 2 to 4 defined, 5 to 9 not, 10 defined
   pub c7 :
-      (readSection (hex "C4 30 13 00 01 00 00 00 02 03 83 05 81 93 03 E5 00 00 90 74 69 2E") ≡ right (record { table = Dcm; map = 0; structure = ranges (record { first = 2; length = 3 }) c7Ranges; closing = record { tag = 0x93; body = hex "E5 00 00" } ∷ []; revision = record { version = 5; number = 0; last = 0 } }))
+      (readSection (hex "C4 30 13 00 01 00 00 00 02 03 83 05 81 93 03 E5 00 00 90 74 69 2E") ≡ right (record { table = Dcm; structure = ranges 0 2 c7Ranges; closing = record { tag = 0x93; body = hex "E5 00 00" } ∷ []; revision = record { version = 5; number = 0; last = 0 } }))
       × (map (defined c7Ranges) (2 ∷ 3 ∷ 4 ∷ 5 ∷ 6 ∷ 7 ∷ 8 ∷ 9 ∷ 10 ∷ []) ≡ true ∷ true ∷ true ∷ false ∷ false ∷ false ∷ false ∷ false ∷ true ∷ [])
   -- C8 first 4095: `81` good, `82` gives 10
   pub c8 :
@@ -113,11 +145,11 @@ pub record Examples : Type 0 where
   -- C9 `00 03 00 12 34 02 00 03 01`: channel 3, source 0x1234, carrier 2, programme 3, mode 1
   pub c9 :
       readSection (hex "C4 30 1D 00 00 00 00 00 00 00 00 00 00 01 00 03 00 12 34 02 00 03 01 93 03 E5 00 00 43 E6 31 47")
-      ≡ right (record { table = Vcm; map = 0; structure = channels (record { included = 0; splice = 0; time = 0; count = 1 }) (record { index = 0; what = record { number = 3; application = 0; path = 0; kind = 0; source = 0x1234; carrier = 2; signal = Digital 3 1 } } ∷ []); closing = record { tag = 0x93; body = hex "E5 00 00" } ∷ []; revision = record { version = 5; number = 0; last = 0 } })
+      ≡ right (record { table = Vcm; structure = channels 0 0 0 0 (record { index = 0; what = record { number = 3; application = 0; path = 0; kind = 0; source = 0x1234; carrier = 2; signal = Digital 3 1 } } ∷ []); closing = record { tag = 0x93; body = hex "E5 00 00" } ∷ []; revision = record { version = 5; number = 0; last = 0 } })
   -- C10 `00 08 10 12 35 02 80 00 00`: analogue, scrambled, standard 0
   pub c10 :
       readSection (hex "C4 30 1D 00 00 00 00 00 00 00 00 00 00 01 00 08 10 12 35 02 80 00 00 93 03 E5 00 00 69 81 46 AD")
-      ≡ right (record { table = Vcm; map = 0; structure = channels (record { included = 0; splice = 0; time = 0; count = 1 }) (record { index = 0; what = record { number = 8; application = 0; path = 0; kind = 0; source = 0x1235; carrier = 2; signal = Analogue 1 0 } } ∷ []); closing = record { tag = 0x93; body = hex "E5 00 00" } ∷ []; revision = record { version = 5; number = 0; last = 0 } })
+      ≡ right (record { table = Vcm; structure = channels 0 0 0 0 (record { index = 0; what = record { number = 8; application = 0; path = 0; kind = 0; source = 0x1235; carrier = 2; signal = Analogue 1 0 } } ∷ []); closing = record { tag = 0x93; body = hex "E5 00 00" } ∷ []; revision = record { version = 5; number = 0; last = 0 } })
   -- C11 `93 03 E5 00 01`, `93 05 E5 00 01 AA BB` and `93 03 05 00 01`: each version 5, 0 of 1. `93 03 E5 02 01`: 11
   pub c11 :
       (readSection (hex "C2 30 13 00 01 01 01 02 80 30 81 C8 00 93 03 E5 00 01 70 5F E6 55") ≡ right (c1Content (record { tag = 0x93; body = hex "E5 00 01" } ∷ []) (record { version = 5; number = 0; last = 1 })))
@@ -127,7 +159,7 @@ pub record Examples : Type 0 where
   -- C12 `2F 08 00 4D 29 AD`: system 2, inner 15, format 8, 5,056,941 symbols
   pub c12 :
       readSection (hex "C2 30 14 00 01 01 02 2F 08 00 4D 29 AD 00 93 03 E5 00 00 CE 5B B1 EE")
-      ≡ right (record { table = Mms; map = 0; structure = modes 1 (record { index = 1; what = c12Mode } ∷ []); closing = record { tag = 0x93; body = hex "E5 00 00" } ∷ []; revision = record { version = 5; number = 0; last = 0 } })
+      ≡ right (record { table = Mms; structure = modes 1 (record { index = 1; what = c12Mode } ∷ []); closing = record { tag = 0x93; body = hex "E5 00 00" } ∷ []; revision = record { version = 5; number = 0; last = 0 } })
   -- C13 offers (v/n/last): 5/0/1 stored, 1 missing; again, repeat; 6/0/0 live; 5/1/1 stored, 1 missing; 6/0/0 repeat;
   -- 5/0/1 live; 5/0/0 refusal 13; 7/0/4 refusal 12
   pub c13 :

@@ -6,7 +6,7 @@ use mathlib.Core.Bool.{Bool, true, false, not, _&&_}
 use mathlib.Core.List.{List}
 use lib.Dec.{eqb}
 use borrow.Author.Tests.{eq-eqb, eqb-true, eqb-false}
-use Rattle.rules.specs.Section.{Content, Reading, wrong, right, readSection}
+use Rattle.rules.specs.Section.{Content, mapOf, Reading, wrong, right, readSection}
 use Rattle.rules.specs.Holding.{indexOf, sectionAt, holdingOf, liveAt, hasMap, notOurs}
 use Rattle.rules.specs.Tuning.{tableLive, allLive, liveCount, liveReading, isSection, readsAs, every, placeReads, tableReads, allRead}
 use Rattle.rules.specs.declared.Table.{Table}
@@ -20,7 +20,7 @@ pub record Reads (s : State) (store : List ℕ) (t : Table) (n : ℕ) : Type 0 w
   pub content : Content
   pub reads : readSection (sectionAt store (liveAt s t n)) ≡ right content
   pub table : content .table ≡ t
-  pub map : hasMap t ≡ true → content .map ≡ s .map
+  pub map : hasMap t ≡ true → (mapOf content) ≡ s .map
   pub version : content .revision .version ≡ holdingOf s t .live .version
   pub number : content .revision .number ≡ n
   pub last : content .revision .last ≡ holdingOf s t .live .last
@@ -57,27 +57,27 @@ module _ (s : State) (store : List ℕ) (t : Table) (n : ℕ) where
       simp (
         r .reads,
         eq-eqb (indexOf (c .table)) (indexOf t) (ap indexOf (r .table)),
-        ap (λ (u : Table). notOurs s u (c .map)) (r .table) ∙ ours s t (c .map) (r .map),
+        ap (λ (u : Table). notOurs s u (mapOf c)) (r .table) ∙ ours s t (mapOf c) (r .map),
         eq-eqb (c .revision .version) (holdingOf s t .live .version) (r .version),
         eq-eqb (c .revision .number) n (r .number),
         eq-eqb (c .revision .last) (holdingOf s t .live .last) (r .last),
       )
 
-  is-section : (c : Content) → readSection (sectionAt store (liveAt s t n)) ≡ right c → isSection s t n (c .table) (c .map) (c .revision) ≡ true → Reads s store t n
+  is-section : (c : Content) → readSection (sectionAt store (liveAt s t n)) ≡ right c → isSection s t n (c .table) (mapOf c) (c .revision) ≡ true → Reads s store t n
   unfolding isSection
   is-section c e q =
       let four = both-left _ (eqb (c .revision .last) (holdingOf s t .live .last)) q in
       let three = both-left _ (eqb (c .revision .number) n) four in
       let two = both-left _ (eqb (c .revision .version) (holdingOf s t .live .version)) three in
-      let table = same-index (c .table) t (eqb-true (indexOf (c .table)) (indexOf t) (both-left _ (not (notOurs s (c .table) (c .map))) two)) in
+      let table = same-index (c .table) t (eqb-true (indexOf (c .table)) (indexOf t) (both-left _ (not (notOurs s (c .table) (mapOf c))) two)) in
       record {
         content = c;
         reads = e;
         table = table;
-        map = λ has. our-map s (c .table) (c .map) (both-right (eqb (indexOf (c .table)) (indexOf t)) _ two) (ap hasMap table ∙ has);
-        version = eqb-true (c .revision .version) (holdingOf s t .live .version) (both-right (eqb (indexOf (c .table)) (indexOf t) && not (notOurs s (c .table) (c .map))) _ three);
-        number = eqb-true (c .revision .number) n (both-right (eqb (indexOf (c .table)) (indexOf t) && not (notOurs s (c .table) (c .map)) && eqb (c .revision .version) (holdingOf s t .live .version)) _ four);
-        last = eqb-true (c .revision .last) (holdingOf s t .live .last) (both-right (eqb (indexOf (c .table)) (indexOf t) && not (notOurs s (c .table) (c .map)) && eqb (c .revision .version) (holdingOf s t .live .version) && eqb (c .revision .number) n) _ q);
+        map = λ has. our-map s (c .table) (mapOf c) (both-right (eqb (indexOf (c .table)) (indexOf t)) _ two) (ap hasMap table ∙ has);
+        version = eqb-true (c .revision .version) (holdingOf s t .live .version) (both-right (eqb (indexOf (c .table)) (indexOf t) && not (notOurs s (c .table) (mapOf c))) _ three);
+        number = eqb-true (c .revision .number) n (both-right (eqb (indexOf (c .table)) (indexOf t) && not (notOurs s (c .table) (mapOf c)) && eqb (c .revision .version) (holdingOf s t .live .version)) _ four);
+        last = eqb-true (c .revision .last) (holdingOf s t .live .last) (both-right (eqb (indexOf (c .table)) (indexOf t) && not (notOurs s (c .table) (mapOf c)) && eqb (c .revision .version) (holdingOf s t .live .version) && eqb (c .revision .number) n) _ q);
       }
 
   pub place-says : placeReads s store t n ≡ true → Reads s store t n

@@ -11,15 +11,13 @@ use lib.Count.{ones}
 use lib.Dec.{leb, ltb, eqb}
 use Rattle.rules.specs.Bytes.{Got, refused, got, unless, andThen, giving}
 use Rattle.rules.specs.Descriptors.{Descriptor, descriptor, passed, counted, filling, closing}
-use Rattle.rules.specs.Layout.{Layout, bare, entry, after, records, head}
-use Rattle.rules.specs.Tables.{cds, mms, vcmHead, vcm, dcmHead, dcm}
-use Rattle.rules.specs.Section.{given, headerWhole, header, structure, revision, Content, contentOf, content, whole, Reading, wrong, right, read, readSection, checkOf, check, askedOf, ask}
+use Rattle.rules.specs.Layout.{Block, taken, Layout, entry, after, records}
+use Rattle.rules.specs.Form.{Front, Form, form}
+use Rattle.rules.specs.Section.{given, headerOf, headerAs, header, frontOf, structure, revision, Content, contentOf, content, whole, Reading, wrong, right, read, readSection, checkOf, check, askedOf, ask}
 use Rattle.rules.specs.Gathering as Gathering
 use Rattle.rules.specs.Gathering.{Outcome}
 use Rattle.rules.specs.Holding.{limitOf, storeSize, holdingOf, wellFormed, allOf, otherLast, isRepeat, goneLive, gathering, liveOrStored, heldWith, stepOf, otherMap, stepped, offeredAs, offered, Box, answerTo, box}
 use Rattle.rules.specs.Tuning.{Plant, plant, found, hidden, tuneSignal, tuneKhz, tuneCarrier, tuneChannel, lookUp, tune}
-use Rattle.rules.specs.declared.Table.{Table}
-use Rattle.rules.specs.declared.Table.the-variants.{Cds, Mms, Vcm, Dcm}
 use Rattle.rules.specs.declared.Channel.{Channel}
 use Rattle.rules.specs.declared.Signal.{Signal}
 use Rattle.rules.specs.declared.Signal.the-variants as Signal
@@ -107,35 +105,27 @@ filling-by (suc n) bs = go (eqb (length bs) 0) _ (then-by (descriptor bs) _ (des
     go true g h = tt
     go false g h = h
 
-module _ {R : Type 0} (l : Layout R) where
-  bare-by : (index : ℕ) (bs : List ℕ) → ByNumber (bare l index bs)
-  unfolding bare
-  bare-by index bs = unless-by _ 8 _ eight (unless-by _ 9 _ nine (unless-by _ 10 _ ten tt))
+taken-by : {R : Type 0} (b : Block R) (limits : R → Bool) (bs : List ℕ) → ByNumber (taken b limits bs)
+unfolding taken
+taken-by b limits bs = unless-by _ 8 _ eight (unless-by _ 9 _ nine (unless-by _ 10 _ ten tt))
 
+module _ {R : Type 0} (l : Layout R) where
   entry-by : (index : ℕ) (bs : List ℕ) → ByNumber (entry l index bs)
   unfolding entry
-  entry-by index bs = then-by (bare l index bs) _ (bare-by index bs) (λ r rest. giving-by _ (counted (l .described) rest) (counted-by (l .described) rest))
+  entry-by index bs = then-by (taken (l .block) (l .fair index) bs) _ (taken-by (l .block) (l .fair index) bs) (λ r rest. giving-by _ (counted (l .described) rest) (counted-by (l .described) rest))
 
   records-by : (n index : ℕ) (bs : List ℕ) → ByNumber (records l n index bs)
   unfolding records
   records-by zero index bs = tt
   records-by (suc n) index bs = then-by (entry l index bs) _ (entry-by index bs) (λ r rest. giving-by _ (records l n (after l r) rest) (records-by n (after l r) rest))
 
-  head-by : (bs : List ℕ) → ByNumber (head l bs)
-  unfolding head
-  head-by bs = giving-by _ (bare l 0 bs) (bare-by 0 bs)
-
 header-by : (bs : List ℕ) → ByNumber (header bs)
-unfolding header headerWhole
-header-by bs =
-    unless-by _ 8 _ eight (given-by _ 7 _ seven (λ t. unless-by _ 8 _ eight (unless-by _ 9 _ nine (unless-by _ 10 _ ten tt))))
+unfolding header headerAs
+header-by bs = unless-by _ 8 _ eight (given-by _ 7 _ seven (λ t. giving-by _ _ (taken-by (headerOf (form t)) (form t .limits) bs)))
 
-structure-by : (t : Table) (bs : List ℕ) → ByNumber (structure t bs)
-unfolding structure
-structure-by Cds bs = giving-by _ _ (records-by cds _ _ _)
-structure-by Mms bs = giving-by _ _ (records-by mms _ _ _)
-structure-by Vcm bs = then-by _ _ (head-by vcmHead _) (λ h rest. giving-by _ _ (records-by (vcm (h .included)) _ _ _))
-structure-by Dcm bs = then-by _ _ (head-by dcmHead _) (λ h rest. giving-by _ _ (records-by dcm _ _ _))
+structure-by : (f : Form) (x : Front) (bs : List ℕ) → ByNumber (structure f x bs)
+unfolding structure frontOf
+structure-by f x bs = then-by (frontOf f x bs) _ (giving-by _ _ (taken-by (f .head) (λ h. true) bs)) (λ y rest. giving-by _ _ (records-by (f .layout y) _ _ _))
 
 revision-by : (bs : List (List ℕ)) → ByNumber (revision bs)
 unfolding revision
@@ -146,8 +136,8 @@ revision-by (b ∷ second ∷ more) = eleven
 content-by : (bs : List ℕ) → ByNumber (content bs)
 unfolding content contentOf closing
 content-by bs =
-    then-by (header bs) _ (header-by bs) (λ t rest.
-    then-by (structure t bs) _ (structure-by t bs) (λ x tail.
+    then-by (header bs) _ (header-by bs) (λ h rest.
+    then-by (structure (form (h .table)) (h .front) rest) _ (structure-by (form (h .table)) (h .front) rest) (λ x tail.
     then-by (filling (length tail) tail) _ (filling-by (length tail) tail) (λ ds end.
     giving-by _ _ (revision-by _))))
 

@@ -8,7 +8,7 @@ use lib.Dec.{eqb}
 use lib.ListN.{length, take}
 use borrow.Author.Tests.{eqb-true, eqb-false, eq-eqb, ne-eqb, not-true}
 use Rattle.rules.specs.Bytes.{from}
-use Rattle.rules.specs.Section.{Content, right, readSection}
+use Rattle.rules.specs.Section.{Content, mapOf, right, readSection}
 use Rattle.rules.specs.Gathering as Gathering
 use Rattle.rules.specs.Holding.{limitOf, indexOf, placeOf, sectionAt, holdingOf, liveAt, gatheredAt, freshHolding, fresh, stepOf, hasMap, notOurs, otherMap, takesIn, Box, answerTo, boxAfter, run, box}
 use Rattle.rules.specs.Tuning.{tableLive, allLive, liveCount, liveReading, isSection, readsAs, placeReads, tableReads, allRead}
@@ -83,14 +83,14 @@ New = Telling.New box
 
 -- step 1: 0xC4 with another map number
 abbrev pub OtherMapped : State → Content → Type 0
-OtherMapped s c = (hasMap (c .table) ≡ true) × (c .map ≡ s .map → ⊥)
+OtherMapped s c = (hasMap (c .table) ≡ true) × (mapOf c ≡ s .map → ⊥)
 
 told-mapped : Telling.Told box OtherMapped
 unfolding otherMap notOurs
 told-mapped =
     record {
-      says = λ s c e. (both-left _ (not (eqb (c .map) (s .map))) e, eqb-false (c .map) (s .map) (not-true _ (both-right (hasMap (c .table)) _ e)));
-      so = λ s c a. simp (a .0, ne-eqb (c .map) (s .map) (a .1));
+      says = λ s c e. (both-left _ (not (eqb (mapOf c) (s .map))) e, eqb-false (mapOf c) (s .map) (not-true _ (both-right (hasMap (c .table)) _ e)));
+      so = λ s c a. simp (a .0, ne-eqb (mapOf c) (s .map) (a .1));
     }
 
 abbrev pub Offering : Box → (section : List ℕ) → Answer → Type 0

@@ -12,11 +12,9 @@ use lib.Dec.{leb}
 use borrow.Author.Tests.{leb-true, leb-false}
 use Rattle.rules.specs.Bytes.{Got, refused, got, unless, andThen, giving, byte, from}
 use Rattle.rules.specs.Descriptors.{Descriptor, descriptor, passed, counted}
-use Rattle.rules.specs.Layout.{Layout, extent, bare, entry, after, records, head}
-use Rattle.rules.specs.Tables.{cds, mms, vcmHead, vcm, dcmHead, dcm}
-use Rattle.rules.specs.Section.{Structure, carriers, modes, channels, ranges, structure}
-use Rattle.rules.specs.declared.Table.{Table}
-use Rattle.rules.specs.declared.Table.the-variants.{Cds, Mms, Vcm, Dcm}
+use Rattle.rules.specs.Layout.{Block, extent, taken, Layout, entry, after, records}
+use Rattle.rules.specs.Form.{Front, Form}
+use Rattle.rules.specs.Section.{Structure, frontOf, structure}
 use Rattle.rules.proofs.Taken.{unless-got}
 
 pub from-from : (b : List ℕ) (n m : ℕ) → from (from b n) m ≡ from b (n + m)
@@ -119,40 +117,25 @@ unfolding counted from
 ends-counted false bs = (0, refl)
 ends-counted true bs = ends-unless bs _ 8 _ (ends-from bs 1 (passed (byte 0 bs) (from bs 1)) (ends-passed (byte 0 bs) (from bs 1)))
 
-module _ {R : Type 0} (l : Layout R) where
-  ends-bare : (index : ℕ) (bs : List ℕ) → Ends (bare l index bs) bs
-  unfolding bare
-  ends-bare index bs = ends-unless bs _ 8 _ (ends-unless bs _ 9 _ (ends-unless bs _ 10 _ (extent l bs, refl)))
+ends-taken : {R : Type 0} (b : Block R) (limits : R → Bool) (bs : List ℕ) → Ends (taken b limits bs) bs
+unfolding taken
+ends-taken b limits bs = ends-unless bs _ 8 _ (ends-unless bs _ 9 _ (ends-unless bs _ 10 _ (extent b bs, refl)))
 
-  ends-records : (n index : ℕ) (bs : List ℕ) → Ends (records l n index bs) bs
-  unfolding records entry from
-  ends-records zero index bs = (0, refl)
-  ends-records (suc n) index bs =
-      ends-then bs (entry l index bs) (λ r rest. giving (λ rs. r ∷ rs) (records l n (after l r) rest))
-      (ends-then bs (bare l index bs) (λ r rest. giving (λ x. r) (counted (l .described) rest)) (ends-bare index bs) (λ r rest. ends-giving rest (λ x. r) (counted (l .described) rest) (ends-counted (l .described) rest)))
-      (λ r rest. ends-giving rest (λ rs. r ∷ rs) (records l n (after l r) rest) (ends-records n (after l r) rest))
+ends-records : {R : Type 0} (l : Layout R) (n index : ℕ) (bs : List ℕ) → Ends (records l n index bs) bs
+unfolding records entry from
+ends-records l zero index bs = (0, refl)
+ends-records l (suc n) index bs =
+    ends-then bs (entry l index bs) (λ r rest. giving (λ rs. r ∷ rs) (records l n (after l r) rest))
+    (ends-then bs (taken (l .block) (l .fair index) bs) (λ r rest. giving (λ x. record { index = index; what = r }) (counted (l .described) rest)) (ends-taken (l .block) (l .fair index) bs)
+    (λ r rest. ends-giving rest (λ x. record { index = index; what = r }) (counted (l .described) rest) (ends-counted (l .described) rest)))
+    (λ r rest. ends-giving rest (λ rs. r ∷ rs) (records l n (after l r) rest) (ends-records l n (after l r) rest))
 
-  -- behind the header
-  ends-behind : (n index : ℕ) (bs : List ℕ) → Ends (records l n index (from bs 7)) bs
-  ends-behind n index bs = ends-from bs 7 (records l n index (from bs 7)) (ends-records n index (from bs 7))
+ends-structure : (f : Form) (x : Front) (bs : List ℕ) → Ends (structure f x bs) bs
+unfolding structure frontOf
+ends-structure f x bs =
+    ends-then bs (frontOf f x bs) _ (ends-giving bs (f .joined x) (taken (f .head) (λ h. true) bs) (ends-taken (f .head) (λ h. true) bs))
+    (λ y rest. ends-giving rest _ (records (f .layout y) (y .count) (y .first) rest) (ends-records (f .layout y) (y .count) (y .first) rest))
 
-  ends-head : (bs : List ℕ) → Ends (head l (from bs 7)) bs
-  unfolding head
-  ends-head bs = ends-giving bs (λ h. h .what) (bare l 0 (from bs 7)) (ends-from bs 7 (bare l 0 (from bs 7)) (ends-bare 0 (from bs 7)))
-
-ends-structure : (t : Table) (bs : List ℕ) → Ends (structure t bs) bs
-unfolding structure
-ends-structure Cds bs = ends-giving bs (carriers (byte 4 bs)) (records cds (byte 5 bs) (byte 4 bs) (from bs 7)) (ends-behind cds (byte 5 bs) (byte 4 bs) bs)
-ends-structure Mms bs = ends-giving bs (modes (byte 4 bs)) (records mms (byte 5 bs) (byte 4 bs) (from bs 7)) (ends-behind mms (byte 5 bs) (byte 4 bs) bs)
-ends-structure Vcm bs =
-    ends-then bs (head vcmHead (from bs 7)) (λ h rest. giving (channels h) (records (vcm (h .included)) (h .count) 0 rest))
-    (ends-head vcmHead bs)
-    (λ h rest. ends-giving rest (channels h) (records (vcm (h .included)) (h .count) 0 rest) (ends-records (vcm (h .included)) (h .count) 0 rest))
-ends-structure Dcm bs =
-    ends-then bs (head dcmHead (from bs 7)) (λ h rest. giving (ranges h) (records dcm (h .length) (h .first) rest))
-    (ends-head dcmHead bs)
-    (λ h rest. ends-giving rest (ranges h) (records dcm (h .length) (h .first) rest) (ends-records dcm (h .length) (h .first) rest))
-
--- what a structure leaves stands at the place that its length says
-pub structure-place : (t : Table) (bs : List ℕ) (x : Structure) (tail : List ℕ) → structure t bs ≡ got x tail → from bs (length bs - length tail) ≡ tail
-structure-place t bs x tail e = suffix-place tail bs (subst (λ (g : Got Structure). Ends g bs) e (ends-structure t bs))
+-- what a structure leaves, behind a header, stands at the place that its length says
+pub structure-place : (f : Form) (x : Front) (bs : List ℕ) (at : ℕ) (y : Structure) (tail : List ℕ) → structure f x (from bs at) ≡ got y tail → from bs (length bs - length tail) ≡ tail
+structure-place f x bs at y tail e = suffix-place tail bs (suffix-trans tail (from bs at) bs (subst (λ (g : Got Structure). Ends g (from bs at)) e (ends-structure f x (from bs at))) (at, refl))

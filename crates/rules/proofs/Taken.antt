@@ -1,17 +1,18 @@
 -- Taking apart: where something was got, each test on the way was passed. Stated once, for every layout.
 use Prim.Native.Nat.{ℕ, zero, suc, _+_, _≤_}
 use native.Mathlib.Omega.{arith}
-use mathlib.Core.Path.{_≡_, refl, sym, ap, _∙_}
+use mathlib.Core.Path.{_≡_, refl, sym, ap, ap₂, _∙_}
 use mathlib.Core.Bool.{Bool, true, false}
 use mathlib.Core.List.{List, _∷_, _++_}
 use mathlib.Core.Option.{Option, none, some}
-use lib.ListN.{length, take}
+use lib.ListN.{length, take, length-append}
 use lib.Seq.{length-take-le, take-append-le, take-take, take-at, drop-at}
 use borrow.Author.Tests.{le-leb, leb-true}
 use Rattle.rules.specs.Bytes.{Got, refused, got, unless, andThen, giving, from}
 use Rattle.rules.specs.Descriptors.{counted}
-use Rattle.rules.specs.Layout.{Layout, extent, Numbered, numbered, bare, entry, after, records, head}
+use Rattle.rules.specs.Layout.{Block, extent, taken, Layout, Numbered, numbered, entry, after, records}
 use Rattle.rules.specs.Section.{given}
+use Rattle.rules.specs.Parts.{Own}
 pub use Rattle.rules.proofs.Truths.{differ, not-so, both-left, both-right, neither-left, neither-right}
 
 pub unless-got : {A : Type 0} (t : Bool) (n : ℕ) (g : Got A) (a : A) (rest : List ℕ) → unless t n g ≡ got a rest → (t ≡ true) × (g ≡ got a rest)
@@ -40,60 +41,84 @@ unfolding given
 given-got none n f b rest e = let z : _≡_ {A = ℕ} 0 1 = cc in absurd (omega arith)
 given-got (some a) n f b rest e = (a, e, refl)
 
--- a record's own bytes say how many they are, whatever stands behind them
-module _ {R : Type 0} (l : Layout R) (own rest : List ℕ) (n : length own ≡ extent l own) where
-  pub own-extent : extent l (own ++ rest) ≡ extent l own
-  own-extent = ap (λ (r : List ℕ). l .size + l .more r) (take-append-le (l .size) own rest (omega (arith, n)))
+-- a block's own bytes say how many they are, whatever stands behind them
+module _ {R : Type 0} (b : Block R) (own rest : List ℕ) (n : Own b own) where
+  pub own-extent : extent b (own ++ rest) ≡ extent b own
+  own-extent = ap (λ (r : List ℕ). b .size + b .more r) (take-append-le (b .size) own rest (omega (arith, n)))
 
-  pub own-taken : take (extent l (own ++ rest)) (own ++ rest) ≡ own
-  own-taken = take-at own rest (extent l (own ++ rest)) (n ∙ sym own-extent)
+  pub own-taken : take (extent b (own ++ rest)) (own ++ rest) ≡ own
+  own-taken = take-at own rest (extent b (own ++ rest)) (n ∙ sym own-extent)
 
-  pub own-left : from (own ++ rest) (extent l (own ++ rest)) ≡ rest
+  pub own-left : from (own ++ rest) (extent b (own ++ rest)) ≡ rest
   unfolding from
-  own-left = drop-at own rest (extent l (own ++ rest)) (n ∙ sym own-extent)
+  own-left = drop-at own rest (extent b (own ++ rest)) (n ∙ sym own-extent)
 
--- and those of a record that is whole are such bytes
-pub own-whole : {R : Type 0} (l : Layout R) (bs : List ℕ) → extent l bs ≤ length bs → length (take (extent l bs) bs) ≡ extent l (take (extent l bs) bs)
-own-whole l bs h = length-take-le (extent l bs) bs h ∙ ap (λ (r : List ℕ). l .size + l .more r) (sym (take-take (l .size) (extent l bs) bs (omega arith)))
+  pub own-fits : extent b (own ++ rest) ≤ length (own ++ rest)
+  own-fits = omega (arith, n, own-extent, length-append own rest)
 
--- a record that was taken
-pub record Taken {R : Type 0} (l : Layout R) (index : ℕ) (bs : List ℕ) (e : Numbered R) (rest : List ℕ) : Type 0 where
-  pub fits : extent l bs ≤ length bs
-  pub zeros : l .zeros (take (extent l bs) bs) ≡ true
-  pub fair : l .fair index (l .look (take (extent l bs) bs)) ≡ true
+-- and those of a block that is whole are such bytes
+pub own-whole : {R : Type 0} (b : Block R) (bs : List ℕ) → extent b bs ≤ length bs → Own b (take (extent b bs) bs)
+own-whole b bs h = length-take-le (extent b bs) bs h ∙ ap (λ (r : List ℕ). b .size + b .more r) (sym (take-take (b .size) (extent b bs) bs (omega arith)))
+
+-- a block that was taken
+pub record Taken {R : Type 0} (b : Block R) (limits : R → Bool) (bs : List ℕ) (r : R) (rest : List ℕ) : Type 0 where
+  pub fits : extent b bs ≤ length bs
+  pub zeros : b .zeros (take (extent b bs) bs) ≡ true
+  pub fair : limits (b .look (take (extent b bs) bs)) ≡ true
+  pub is : r ≡ b .look (take (extent b bs) bs)
+  pub behind : rest ≡ from bs (extent b bs)
+
+module _ {R : Type 0} (b : Block R) (limits : R → Bool) where
+  pub taken-got : (bs : List ℕ) (r : R) (rest : List ℕ) → taken b limits bs ≡ got r rest → Taken b limits bs r rest
+  unfolding taken
+  taken-got bs r rest q =
+      let x = unless-got _ _ _ _ _ q in
+      let y = unless-got _ _ _ _ _ (x .1) in
+      let z = unless-got _ _ _ _ _ (y .1) in
+      let d = z .1 in
+      record { fits = leb-true _ _ (x .0); zeros = y .0; fair = z .0; is = cc; behind = cc }
+
+  pub taken-so : (bs : List ℕ) → extent b bs ≤ length bs → b .zeros (take (extent b bs) bs) ≡ true → limits (b .look (take (extent b bs) bs)) ≡ true
+      → taken b limits bs ≡ got (b .look (take (extent b bs) bs)) (from bs (extent b bs))
+  unfolding taken unless
+  taken-so bs h z f = rw (le-leb _ _ h, z, f)
+
+  -- from its own bytes, whatever stands behind them: what they say, and what is left
+  module _ (own : List ℕ) (n : Own b own) where
+    pub own-got : (x : List ℕ) (r : R) (rest : List ℕ) → taken b limits (own ++ x) ≡ got r rest
+        → (b .zeros own ≡ true) × (limits (b .look own) ≡ true) × (r ≡ b .look own) × (rest ≡ x)
+    own-got x r rest e =
+        let t = taken-got (own ++ x) r rest e in
+        let o = own-taken b own x n in
+        (ap (b .zeros) (sym o) ∙ t .zeros, ap (λ (y : List ℕ). limits (b .look y)) (sym o) ∙ t .fair, t .is ∙ ap (b .look) o, t .behind ∙ own-left b own x n)
+
+    pub own-so : (x : List ℕ) → b .zeros own ≡ true → limits (b .look own) ≡ true → taken b limits (own ++ x) ≡ got (b .look own) x
+    own-so x z f =
+        let o = own-taken b own x n in
+        taken-so (own ++ x) (own-fits b own x n) (ap (b .zeros) o ∙ z) (ap (λ (y : List ℕ). limits (b .look y)) o ∙ f)
+        ∙ ap₂ got (ap (b .look) o) (own-left b own x n)
+
+-- a record that was taken, with its descriptors behind it
+pub record Entry {R : Type 0} (l : Layout R) (index : ℕ) (bs : List ℕ) (e : Numbered R) (rest : List ℕ) : Type 0 where
+  pub fits : extent (l .block) bs ≤ length bs
+  pub zeros : l .block .zeros (take (extent (l .block) bs) bs) ≡ true
+  pub fair : l .fair index (l .block .look (take (extent (l .block) bs) bs)) ≡ true
   pub is : e ≡ numbered l index bs
-  pub behind : counted (l .described) (from bs (extent l bs)) ≡ got tt rest
+  pub behind : counted (l .described) (from bs (extent (l .block) bs)) ≡ got tt rest
 
 module _ {R : Type 0} (l : Layout R) where
-  pub bare-got : (index : ℕ) (bs : List ℕ) (e : Numbered R) (rest : List ℕ) → bare l index bs ≡ got e rest
-      → (extent l bs ≤ length bs) × (l .zeros (take (extent l bs) bs) ≡ true) × (l .fair index (l .look (take (extent l bs) bs)) ≡ true) × (e ≡ numbered l index bs) × (rest ≡ from bs (extent l bs))
-  unfolding bare
-  bare-got index bs e rest q =
-      let a = unless-got _ _ _ _ _ q in
-      let b = unless-got _ _ _ _ _ (a .1) in
-      let c = unless-got _ _ _ _ _ (b .1) in
-      let d = c .1 in
-      (leb-true _ _ (a .0), b .0, c .0, cc, cc)
-
-  -- a head that was got has its own bytes, and what is left stands behind them
-  pub head-got : (bs : List ℕ) (h : R) (rest : List ℕ) → head l bs ≡ got h rest → (extent l bs ≤ length bs) × (h ≡ l .look (take (extent l bs) bs)) × (rest ≡ from bs (extent l bs))
-  unfolding head numbered
-  head-got bs h rest e =
-      let g = giving-got _ _ _ _ e in
-      let t = bare-got 0 bs (g .0) rest (g .1) in
-      (t .0, g .2 ∙ ap (λ (n : Numbered R). n .what) (t .3), t .4)
-
-  pub taken : (index : ℕ) (bs : List ℕ) (e : Numbered R) (rest : List ℕ) → entry l index bs ≡ got e rest → Taken l index bs e rest
-  unfolding entry
-  taken index bs e rest q =
+  pub entry-got : (index : ℕ) (bs : List ℕ) (e : Numbered R) (rest : List ℕ) → entry l index bs ≡ got e rest → Entry l index bs e rest
+  unfolding entry numbered
+  entry-got index bs e rest q =
       let t = then-got _ _ _ _ q in
-      let b = bare-got index bs (t .value) (t .behind) (t .one) in
+      let b = taken-got (l .block) (l .fair index) bs (t .value) (t .behind) (t .one) in
       let g = giving-got _ _ _ _ (t .more) in
-      record { fits = b .0; zeros = b .1; fair = b .2; is = g .2 ∙ b .3; behind = ap (counted (l .described)) (sym (b .4)) ∙ g .1 }
+      record { fits = b .fits; zeros = b .zeros; fair = b .fair; is = g .2 ∙ ap (λ (r : R). record { index = index; what = r }) (b .is); behind = ap (counted (l .described)) (sym (b .behind)) ∙ g .1 }
 
-  pub bare-so : (index : ℕ) (bs : List ℕ) → extent l bs ≤ length bs → l .zeros (take (extent l bs) bs) ≡ true → l .fair index (l .look (take (extent l bs) bs)) ≡ true → bare l index bs ≡ got (numbered l index bs) (from bs (extent l bs))
-  unfolding bare unless
-  bare-so index bs h z f = rw (le-leb _ _ h, z, f)
+  pub entry-so : (index : ℕ) (bs rest : List ℕ) → extent (l .block) bs ≤ length bs → l .block .zeros (take (extent (l .block) bs) bs) ≡ true → l .fair index (l .block .look (take (extent (l .block) bs) bs)) ≡ true
+      → counted (l .described) (from bs (extent (l .block) bs)) ≡ got tt rest → entry l index bs ≡ got (numbered l index bs) rest
+  unfolding entry numbered andThen giving
+  entry-so index bs rest h z f c = rw (taken-so (l .block) (l .fair index) bs h z f, c)
 
   -- as many records as were asked for
   pub records-count : (n index : ℕ) (bs : List ℕ) → giving length (records l n index bs) ≡ giving (λ rs. n) (records l n index bs)

@@ -3,11 +3,14 @@ pub mod Crc
 pub mod Descriptors
 pub mod Layout
 pub mod Tables
+pub mod Search
+pub mod Form
 pub mod Section
+pub mod Parts
+pub mod InParts
 pub mod Steps
 pub mod Gathering
 pub mod Holding
-pub mod Search
 pub mod Tuning
 pub mod Said
 pub mod Lineup

@@ -6,7 +6,7 @@ use mathlib.Core.Bool.{Bool, true, false, cond, _&&_, _||_}
 use mathlib.Core.List.{List, [], _∷_}
 use lib.Dec.{leb, ltb, eqb}
 use Rattle.rules.specs.Bytes.{byte, word}
-use Rattle.rules.specs.Layout.{Layout}
+use Rattle.rules.specs.Layout.{Block, fixed, Layout}
 use Rattle.rules.specs.declared.Measure.{Measure}
 use Rattle.rules.specs.declared.Carriers.{Carriers}
 use Rattle.rules.specs.declared.Mode.{Mode}
@@ -46,10 +46,7 @@ carriersFair index c = ltb 0 (c .count) && leb (index + c .count) 256
 unfoldable pub cds : Layout Carriers
 cds =
     record {
-      size = 5;
-      more = λ r. 0;
-      zeros = carriersZeros;
-      look = carriersOf;
+      block = fixed 5 carriersZeros carriersOf;
       fair = carriersFair;
       takes = λ c. c .count;
       described = true;
@@ -90,7 +87,7 @@ unfoldable pub modeFair : ℕ → Mode → Bool
 modeFair index m = assigned m && leb index 255
 
 unfoldable pub mms : Layout Mode
-mms = record { size = 6; more = λ r. 0; zeros = modeZeros; look = modeOf; fair = modeFair; takes = λ m. 1; described = true }
+mms = record { block = fixed 6 modeZeros modeOf; fair = modeFair; takes = λ m. 1; described = true }
 
 -- ---- VCM: zero (2), descriptors-included (1), zero (5); splice (1), zero (7); activation time (32); record count (8).
 -- Splice and time are not acted on.
@@ -107,17 +104,8 @@ vcmHeadOf r =
       count = byte 6 r;
     }
 
-unfoldable pub vcmHead : Layout VcmHead
-vcmHead =
-    record {
-      size = 7;
-      more = λ r. 0;
-      zeros = vcmHeadZeros;
-      look = vcmHeadOf;
-      fair = λ index h. true;
-      takes = λ h. 0;
-      described = false;
-    }
+unfoldable pub vcmHead : Block VcmHead
+vcmHead = fixed 7 vcmHeadZeros vcmHeadOf
 
 -- ---- Channel record, 9 bytes: zero (4), number (12); application (1), zero (1), path (1), transport (1), type (4); source or
 -- application number (16); carrier reference (8); then for transport 0 programme (16) and mode reference (8), for
@@ -159,10 +147,7 @@ channelFair index c = leb (c .kind) 1 && standardFair (c .signal)
 unfoldable pub vcm : (included : ℕ) → Layout Channel
 vcm included =
     record {
-      size = 9;
-      more = λ r. 0;
-      zeros = channelZeros;
-      look = channelOf;
+      block = fixed 9 channelZeros channelOf;
       fair = channelFair;
       takes = λ c. 0;
       described = eqb included 1;
@@ -174,19 +159,10 @@ unfoldable pub dcmHeadZeros : List ℕ → Bool
 dcmHeadZeros r = eqb (byte 0 r / 16) 0 && eqb (byte 2 r / 128) 0
 
 unfoldable pub dcmHeadOf : List ℕ → DcmHead
-dcmHeadOf r = record { first = byte 0 r % 16 * 256 + byte 1 r; length = byte 2 r % 128 }
+dcmHeadOf r = record { first = byte 0 r % 16 * 256 + byte 1 r; count = byte 2 r % 128 }
 
-unfoldable pub dcmHead : Layout DcmHead
-dcmHead =
-    record {
-      size = 3;
-      more = λ r. 0;
-      zeros = dcmHeadZeros;
-      look = dcmHeadOf;
-      fair = λ index h. true;
-      takes = λ h. 0;
-      described = false;
-    }
+unfoldable pub dcmHead : Block DcmHead
+dcmHead = fixed 3 dcmHeadZeros dcmHeadOf
 
 -- ---- a range byte: range-defined (1), channel count (7)
 
@@ -201,10 +177,7 @@ rangeFair first r = ltb 0 (r .count) && leb (first + r .count) 4096
 unfoldable pub dcm : Layout Range
 dcm =
     record {
-      size = 1;
-      more = λ r. 0;
-      zeros = λ r. true;
-      look = rangeOf;
+      block = fixed 1 (λ r. true) rangeOf;
       fair = rangeFair;
       takes = λ r. r .count;
       described = false;

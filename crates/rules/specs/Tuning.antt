@@ -7,7 +7,8 @@ use lib.ListN.{length}
 use lib.Dec.{leb, ltb, eqb}
 use Rattle.rules.specs.Layout.{Numbered}
 use Rattle.rules.specs.Tables.{carrierKhz}
-use Rattle.rules.specs.Section.{Structure, carriers, modes, channels, ranges, Reading, wrong, right, readSection}
+pub use Rattle.rules.specs.Form.{Plant}
+use Rattle.rules.specs.Section.{Structure, mapOf, Reading, wrong, right, readSection}
 use Rattle.rules.specs.Holding.{limitOf, indexOf, storeSize, sectionAt, holdingOf, liveAt, wellFormed, notOurs}
 use Rattle.rules.specs.Search.{first, sections}
 use Rattle.rules.specs.declared.Table.{Table}
@@ -51,7 +52,7 @@ isSection s t n table map r =
 
 unfoldable pub readsAs : State → Table → (n : ℕ) → Reading → Bool
 readsAs s t n (wrong k) = false
-readsAs s t n (right c) = isSection s t n (c .table) (c .map) (c .revision)
+readsAs s t n (right c) = isSection s t n (c .table) (mapOf c) (c .revision)
 
 -- the test holds for 0 to n - 1
 unfoldable pub every : (n : ℕ) → (ℕ → Bool) → Bool
@@ -70,29 +71,17 @@ allRead s store =
 
 -- ---- the live records of the four tables
 
-unfoldable pub carriersIn : Structure → List (Numbered Carriers)
-carriersIn (carriers index rs) = rs
-carriersIn (modes index rs) = []
-carriersIn (channels h rs) = []
-carriersIn (ranges h rs) = []
+abbrev pub carriersIn : Structure → List (Numbered Carriers)
+carriersIn x = x .lists .carriers
 
-unfoldable pub modesIn : Structure → List (Numbered Mode)
-modesIn (carriers index rs) = []
-modesIn (modes index rs) = rs
-modesIn (channels h rs) = []
-modesIn (ranges h rs) = []
+abbrev pub modesIn : Structure → List (Numbered Mode)
+modesIn x = x .lists .modes
 
-unfoldable pub channelsIn : Structure → List (Numbered Channel)
-channelsIn (carriers index rs) = []
-channelsIn (modes index rs) = []
-channelsIn (channels h rs) = rs
-channelsIn (ranges h rs) = []
+abbrev pub channelsIn : Structure → List (Numbered Channel)
+channelsIn x = x .lists .channels
 
-unfoldable pub rangesIn : Structure → List (Numbered Range)
-rangesIn (carriers index rs) = []
-rangesIn (modes index rs) = []
-rangesIn (channels h rs) = []
-rangesIn (ranges h rs) = rs
+abbrev pub rangesIn : Structure → List (Numbered Range)
+rangesIn x = x .lists .ranges
 
 unfoldable pub recordsIn : {R : Type 0} → (Structure → List R) → Reading → List R
 recordsIn records (wrong n) = []
@@ -106,13 +95,7 @@ liveSection records s store t n = recordsIn records (liveReading s store t n)
 unfoldable pub liveRecords : {R : Type 0} → (Structure → List R) → State → List ℕ → Table → List R
 liveRecords records s store t = sections (liveSection records s store t) (liveCount s t) 0
 
--- the live records of the four tables
-pub record Plant : Type 0 where
-  pub carriers : List (Numbered Carriers)
-  pub modes : List (Numbered Mode)
-  pub channels : List (Numbered Channel)
-  pub ranges : List (Numbered Range)
-
+-- the live records of all tables
 unfoldable pub plant : State → List ℕ → Plant
 plant s store =
     record {

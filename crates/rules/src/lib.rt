@@ -64,10 +64,10 @@ pub struct VcmHead {
     pub count: u8,
 }
 
-// The head of a DCM: `length` is the data length, so many range bytes.
+// The head of a DCM: `count` is the data length, so many range bytes.
 pub struct DcmHead {
     pub first: u16,
-    pub length: u8,
+    pub count: u8,
 }
 
 // The first three body bytes of the revision descriptor without their reserved bits.
