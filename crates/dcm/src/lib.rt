@@ -39,7 +39,7 @@ pub fn head_of(r: &[u8]) -> DcmHead
     let length = fields::byte(r, 2);
     DcmHead {
         first: (first % 16) as u16 * 256 + first_low as u16,
-        length: length % 128,
+        count: length % 128,
     }
 }
 

@@ -13,7 +13,7 @@ use Rattle.rules.specs.Bytes.{Got, refused, got, unless, andThen, giving
 use Rattle.rules.specs.Descriptors.{Descriptor, descriptor, passed, counted, filling, closing}
 use Rattle.rules.specs.Layout.{Block, taken, Layout, entry, after, records}
 use Rattle.rules.specs.Form.{Front, Form, form}
-use Rattle.rules.specs.Section.{given, headerOf, headerAs, header, frontOf, structure, revision, Content, contentOf, content, whole, Reading, wrong, right, read, readSection, checkOf, check, askedOf, ask}
+use Rattle.rules.specs.Section.{given, headerOf, headerBy, header, frontOf, structure, revision, Content, contentOf, content, whole, Reading, wrong, right, read, readSection, checkOf, check, askedOf, ask}
 use Rattle.rules.specs.Gathering as Gathering
 use Rattle.rules.specs.Gathering.{Outcome}
 use Rattle.rules.specs.Holding.{limitOf, storeSize, holdingOf, wellFormed, allOf, otherLast, isRepeat, goneLive, gathering, liveOrStored, heldWith, stepOf, otherMap, stepped, offeredAs, offered, Box, answerTo, box}
@@ -120,7 +120,7 @@ module _ {R : Type 0} (l : Layout R) where
   records-by (suc n) index bs = then-by (entry l index bs) _ (entry-by index bs) (λ r rest. giving-by _ (records l n (after l r) rest) (records-by n (after l r) rest))
 
 header-by : (bs : List ℕ) → ByNumber (header bs)
-unfolding header headerAs
+unfolding header headerBy
 header-by bs = unless-by _ 8 _ eight (given-by _ 7 _ seven (λ t. giving-by _ _ (taken-by (headerOf (form t)) (form t .limits) bs)))
 
 structure-by : (f : Form) (x : Front) (bs : List ℕ) → ByNumber (structure f x bs)

@@ -12,7 +12,7 @@ use Rattle.rules.specs.Bytes.{Got, got, andThen, giving, byte, from}
 use Rattle.rules.specs.Descriptors.{Descriptor, closing, bodies}
 use Rattle.rules.specs.Layout.{extent, taken, Numbered, records}
 use Rattle.rules.specs.Form.{Front, Form, form}
-use Rattle.rules.specs.Section.{headerOf, Headed, headerAs, header, Structure, frontOf, structure, revisionTag, revision, Content, contentOf, content}
+use Rattle.rules.specs.Section.{headerOf, Headed, headerBy, header, Structure, frontOf, structure, revisionTag, revision, Content, contentOf, content}
 use Rattle.rules.specs.Parts.{Piece, Parts, encoded, area, Own, Sized, saidFront, laidOut, bytesOf, Shaped, said, Fair}
 use Rattle.rules.specs.InParts.{ReadFrom, PartsRight, contentIn}
 use Rattle.rules.specs.declared.Table.{Table}
@@ -73,7 +73,7 @@ module _ (t : Table) (p : Parts) (s : Shaped (form t) p) where
       }
 
   header-back : {r : Revision} → PartsRight t p r → header (bytesOf (form t) p) ≡ got (record { table = t; front = form t .header .look (p .header) }) (behindHeader (form t) p)
-  unfolding bytesOf headerAs headerOf giving byte from
+  unfolding bytesOf headerBy headerOf giving byte from
   header-back k =
       let n = header-own (form t) (p .number) (p .flags) (p .low) _ (s .header) in
       let long : form t .medium < length (bytesOf (form t) p) = omega (arith, formal t .high, s .header, length-append (p .header) (behindHeader (form t) p)) in
@@ -226,7 +226,7 @@ content-apart bs c rest e =
     let m = made bs c rest e in
     let h = header-split f bs (m .front) (m .behind) (header-got bs _ (m .behind) (m .headed) .block) in
     let x = structure-split f (f .header .look (h .own)) (m .behind) (encoded (c .closing)) (c .structure)
-      (ap (λ (y : Front). structure f y (m .behind)) (sym (h .looks)) ∙ m .built ∙ ap (got (c .structure)) (closing-split _ _ _ (m .closed))) in (
+    (ap (λ (y : Front). structure f y (m .behind)) (sym (h .looks)) ∙ m .built ∙ ap (got (c .structure)) (closing-split _ _ _ (m .closed))) in (
       record { number = h .number; flags = h .flags; low = h .low; header = h .own; head = x .head; pieces = x .pieces; closing = c .closing },
       record { header = h .shaped; head = x .headed; sized = x .sized; count = x .count },
       h .is ∙ ap (λ (l : List ℕ). h .number ∷ h .flags ∷ h .low ∷ (h .own ++ l)) (x .is),

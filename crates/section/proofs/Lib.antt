@@ -1,4 +1,5 @@
 pub mod Lists
+pub mod Headers
 pub mod Walks
 pub mod Whole
 pub mod Determined

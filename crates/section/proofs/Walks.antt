@@ -1,50 +1,48 @@
 -- The records of each kind: those of another name for the same kind, that a channel record takes no index, and where the records of each
 -- structure stand.
-use Prim.Native.Nat.{ℕ, zero, suc, _+_, _≤_}
+use Prim.Native.Nat.{ℕ, zero, suc, _-_, _≤_}
 use native.Mathlib.Omega.{arith}
 use mathlib.Core.Path.{_≡_, refl, sym, ap, subst, _∙_}
-use mathlib.Core.Bool.{Bool, true, false}
+use mathlib.Core.Bool.{true}
 use mathlib.Core.List.{List, _∷_}
-use lib.ListN.{length}
-use Rattle.rules.specs.Bytes.{Got, refused, got, unless, andThen, giving, from}
+use lib.ListN.{length, take}
+use lib.Dec.{eqb}
+use borrow.Author.Tests.{le-leb}
+use Rattle.rules.specs.Bytes.{Got, refused, got, unless, andThen, giving, byte, from}
 use Rattle.rules.specs.Descriptors.{counted}
-use Rattle.rules.specs.Layout.{Layout, extent, Numbered, numbered, bare, entry, after, records, head}
-use Rattle.rules.specs.Tables.{vcmHead, channelFair, vcm, dcmHead}
-use Rattle.rules.specs.Section.{Structure, channels, ranges, structure, recordsAt, countOf}
+use Rattle.rules.specs.Layout.{extent, taken, Numbered, entry, after, records}
+use Rattle.rules.specs.Tables.{vcmHeadZeros, vcmHeadOf, vcmHead, channelFair, vcm, dcmHeadZeros, dcmHeadOf, dcmHead}
+use Rattle.rules.specs.Form.{Front, Form, countedHeader, noHead, mapHeader, form}
+use Rattle.rules.specs.Section.{headerOf, Structure, frontOf, structure, recordsAt}
 use Rattle.rules.specs.declared.Table.{Table}
 use Rattle.rules.specs.declared.Table.the-variants.{Cds, Mms, Vcm, Dcm}
 use Rattle.rules.specs.declared.Channel.{Channel}
 use Rattle.rules.specs.declared.VcmHead.{VcmHead}
 use Rattle.rules.specs.declared.DcmHead.{DcmHead}
-use Rattle.rules.proofs.Taken.{giving-got, head-got, records-count}
+use Rattle.rules.proofs.Taken.{then-got, giving-got, taken-got}
 use Rattle.rules.proofs.Places.{from-from, from-length}
-use Rattle.fields.proofs.Laws.{left-giving}
+use Rattle.fields.proofs.Laws.{left-giving, taken-here}
 use Rattle.fields.specs.Place.{leftOf, Stands}
 use Rattle.fields.specs.declared.Skip.{Skip}
-use Rattle.section.specs.Kinds.{RecordOf, layoutOf, headed, outlineOf}
+use Rattle.section.specs.Reads.{headedAs, behindHeader}
+use Rattle.section.specs.Kinds.{RecordOf, layoutOf, kindOf, outlinedBy, outlineOf}
 use Rattle.section.specs.declared.structure.Outline.{Outline}
 use Rattle.section.specs.declared.structure.Outline.the-variants as outline
 use Rattle.section.specs.declared.structure.Kind.{Kind}
-use Rattle.section.specs.declared.structure.Kind.the-variants.{Channels, Ranges}
+use Rattle.section.specs.declared.structure.Kind.the-variants.{Carriers, Modes, Channels, Ranges}
+use Rattle.section.proofs.Headers.{seven, header-byte}
 
 pub records-as : (k j : Kind) → k ≡ j → (count index : ℕ) (b : List ℕ) (r : Skip) (bs : List ℕ) → Stands b r (records (layoutOf j) count index bs) → Stands b r (records (layoutOf k) count index bs)
 records-as k j e count index b r bs s = subst (λ (x : Kind). Stands b r (records (layoutOf x) count index bs)) (sym e) s
 
 -- the index is not looked at in a channel record
-same-left : {R : Type 0} (x y z d : Bool) (a b : R) (rest : List ℕ) → leftOf (andThen (unless x 8 (unless y 9 (unless z 10 (got a rest)))) (λ r l. giving (λ u. r) (counted d l))) ≡ leftOf (andThen (unless x 8 (unless y 9 (unless z 10 (got b rest)))) (λ r l. giving (λ u. r) (counted d l)))
-unfolding unless andThen leftOf giving
-same-left true true true d a b rest = go (counted d rest)
-  where
-    go : (g : Got Unit) → leftOf (giving (λ u. a) g) ≡ leftOf (giving (λ u. b) g)
-    go (refused n) = refl
-    go (got u l) = refl
-same-left true true false d a b rest = refl
-same-left true false z d a b rest = refl
-same-left false y z d a b rest = refl
-
 same-entry : (included i j : ℕ) (bs : List ℕ) → leftOf (entry (vcm included) i bs) ≡ leftOf (entry (vcm included) j bs)
-unfolding entry bare vcm channelFair
-same-entry included i j bs = same-left _ _ _ _ (numbered (vcm included) i bs) (numbered (vcm included) j bs) (from bs 9)
+unfolding entry vcm channelFair andThen
+same-entry included i j bs = go (taken (vcm included .block) (vcm included .fair i) bs)
+  where
+    go : (g : Got Channel) → leftOf {A = Numbered Channel} (andThen g (λ r rest. giving (λ x. record { index = i; what = r }) (counted (eqb included 1) rest))) ≡ leftOf {A = Numbered Channel} (andThen g (λ r rest. giving (λ x. record { index = j; what = r }) (counted (eqb included 1) rest)))
+    go (refused n) = refl
+    go (got r rest) = left-giving _ (counted (eqb included 1) rest) ∙ sym (left-giving _ (counted (eqb included 1) rest))
 
 -- nor in so many of them
 same-records : (included n i j : ℕ) (bs : List ℕ) → leftOf (records (vcm included) n i bs) ≡ leftOf (records (vcm included) n j bs)
@@ -71,76 +69,130 @@ any-index included count index b r bs s = record { means = s .means ∙ same-rec
 
 -- ---- where the records stand
 
+-- so many records of a kind stand at a place: the structure has as many, and leaves the same bytes
+pub record Area (t : Table) (b : List ℕ) (k : Kind) (start first count : ℕ) : Type 0 where
+  pub same : giving (λ x. x .front .count) (structure (form t) (headedAs t b .front) (behindHeader t b)) ≡ giving (λ rs. count) (records (layoutOf k) count first (from b start))
+  pub behind : start ≡ recordsAt t b
+  pub within : start ≤ length b
+
+abbrev outlined : Table → List ℕ → Outline → Type 0
+outlined t b (outline.Refused n) = structure (form t) (headedAs t b .front) (behindHeader t b) ≡ refused n
+outlined t b (outline.Records k start first count) = Area t b k start first count
+
+-- a kind's layout is the form's
+kind-records : (t : Table) (y : Front) (c n i : ℕ) (bs : List ℕ) → giving (λ rs. c) (records (form t .layout y) n i bs) ≡ giving (λ rs. c) (records (layoutOf (kindOf t y)) n i bs)
+unfolding kindOf layoutOf
+kind-records Cds y c n i bs = refl
+kind-records Mms y c n i bs = refl
+kind-records Vcm y c n i bs = refl
+kind-records Dcm y c n i bs = refl
+
+-- the head keeps the map number that the header said
+map-joined : (t : Table) (x : Front) (h : form t .Head) → form t .joined x h .map ≡ x .map
+map-joined Cds x h = refl
+map-joined Mms x h = refl
+map-joined Vcm x h = refl
+map-joined Dcm x h = refl
+
 giving-giving : {A B C : Type 0} (f : A → B) (k : B → C) (g : Got A) → giving k (giving f g) ≡ giving (λ a. k (f a)) g
 unfolding giving
 giving-giving f k (refused n) = refl
 giving-giving f k (got a rest) = refl
 
--- so many records of a kind stand at a place: the structure has as many, and leaves the same bytes
-pub record Area (t : Table) (b : List ℕ) (k : Kind) (start first count : ℕ) : Type 0 where
-  pub same : giving countOf (structure t b) ≡ giving length (records (layoutOf k) count first (from b start))
-  pub behind : start ≡ recordsAt t
-  pub within : start ≤ length b
-
-abbrev outlined : Table → List ℕ → Outline → Type 0
-outlined t b (outline.Refused n) = structure t b ≡ refused n
-outlined t b (outline.Records k start first count) = Area t b k start first count
-
 -- what a head leaves stands behind its bytes
-head-place : {R : Type 0} (l : Layout R) (b : List ℕ) (h : R) (rest : List ℕ) → 7 ≤ length b → head l (from b 7) ≡ got h rest → (rest ≡ from b (7 + extent l (from b 7))) × (7 + extent l (from b 7) ≤ length b)
-head-place l b h rest w e =
-    let t = head-got l (from b 7) h rest e in
-    (t .2 ∙ from-from b 7 (extent l (from b 7)), omega (arith, t .0, from-length b 7))
+head-place : (t : Table) (b : List ℕ) (y : Front) (rest : List ℕ) → 7 ≤ length b → frontOf (form t) (headedAs t b .front) (behindHeader t b) ≡ got y rest → (rest ≡ from b (recordsAt t b)) × (recordsAt t b ≤ length b)
+unfolding frontOf recordsAt
+head-place t b y rest w e =
+    let g = giving-got _ _ _ _ e in
+    let h = taken-got (form t .head) (λ h. true) (behindHeader t b) (g .0) rest (g .1) in
+    let n = extent (headerOf (form t)) b in
+    (h .behind ∙ from-from b n _, omega (arith, h .fits, from-length b n, seven t b))
 
-module _ {R : Type 0} (f : R → Outline) (g : Got R) where
-  pub headed-no : (n : ℕ) → g ≡ refused n → outline.Refused n ≡ headed f g
-  unfolding headed
-  headed-no n e = rw e
+structure-at : (f : Form) (x y : Front) (bs rest : List ℕ) → frontOf f x bs ≡ got y rest → structure f x bs ≡ giving (λ rs. record { front = y; lists = f .says rs }) (records (f .layout y) (y .count) (y .first) rest)
+unfolding structure andThen
+structure-at f x y bs rest e = rw e
 
-  pub headed-so : (h : R) (rest : List ℕ) → g ≡ got h rest → f h ≡ headed f g
-  unfolding headed
-  headed-so h rest e = rw e
+structure-no : (f : Form) (x : Front) (bs : List ℕ) (n : ℕ) → frontOf f x bs ≡ refused n → structure f x bs ≡ refused n
+unfolding structure andThen
+structure-no f x bs n e = rw e
 
-module _ (b : List ℕ) (w : 7 ≤ length b) where
-  vcm-says : (g : Got VcmHead) → head vcmHead (from b 7) ≡ g → outlined Vcm b (headed (λ h. outline.Records (Channels (h .included)) (recordsAt Vcm) 0 (h .count)) g)
-  unfolding structure andThen headed countOf recordsAt layoutOf vcmHead
-  vcm-says (refused n) e = rw e
-  vcm-says (got h rest) e =
-      let p = head-place vcmHead b h rest w e in
-      record { same = rw (e, p .0) (giving-giving (channels h) countOf _); behind = refl; within = p .1 }
+-- the outline says where the records of the structure stand
+module _ (t : Table) (b : List ℕ) (w : 7 ≤ length b) where
+  by-front : (g : Got Front) → frontOf (form t) (headedAs t b .front) (behindHeader t b) ≡ g → outlined t b (outlinedBy t b g)
+  unfolding outlinedBy
+  by-front (refused n) e = structure-no (form t) _ _ n e
+  by-front (got y rest) e =
+      let p = head-place t b y rest w e in
+      record {
+        same = ap (giving (λ (x : Structure). x .front .count)) (structure-at (form t) _ y _ rest e) ∙ giving-giving _ (λ (x : Structure). x .front .count) _ ∙ kind-records t y (y .count) (y .count) (y .first) rest
+            ∙ ap (λ (l : List ℕ). giving (λ rs. y .count) (records (layoutOf (kindOf t y)) (y .count) (y .first) l)) (p .0);
+        behind = refl;
+        within = p .1;
+      }
 
-  dcm-says : (g : Got DcmHead) → head dcmHead (from b 7) ≡ g → outlined Dcm b (headed (λ h. outline.Records Ranges (recordsAt Dcm) (h .first) (h .length)) g)
-  unfolding structure andThen headed countOf recordsAt layoutOf dcmHead
-  dcm-says (refused n) e = rw e
-  dcm-says (got h rest) e =
-      let p = head-place dcmHead b h rest w e in
-      record { same = rw (e, p .0) (giving-giving (ranges h) countOf _); behind = refl; within = p .1 }
+  outline-says : outlined t b (outlineOf t b)
+  unfolding outlineOf
+  outline-says = by-front (frontOf (form t) (headedAs t b .front) (behindHeader t b)) refl
 
-  -- the outline says where the records of the structure stand
-  outline-says : (t : Table) → outlined t b (outlineOf t b)
-  unfolding outlineOf structure countOf recordsAt layoutOf
-  outline-says Cds = record { same = giving-giving _ countOf _; behind = refl; within = w }
-  outline-says Mms = record { same = giving-giving _ countOf _; behind = refl; within = w }
-  outline-says Vcm = vcm-says (head vcmHead (from b 7)) refl
-  outline-says Dcm = dcm-says (head dcmHead (from b 7)) refl
-
-  module _ (t : Table) (r : Outline) (o : r ≡ outlineOf t b) where
-    pub outlined-no : (n : ℕ) → r ≡ outline.Refused n → structure t b ≡ refused n
-    outlined-no n e = subst (λ (x : Outline). outlined t b x) (sym o ∙ e) (outline-says t)
+  module _ (r : Outline) (o : r ≡ outlineOf t b) where
+    pub outlined-no : (n : ℕ) → r ≡ outline.Refused n → structure (form t) (headedAs t b .front) (behindHeader t b) ≡ refused n
+    outlined-no n e = subst (λ (x : Outline). outlined t b x) (sym o ∙ e) outline-says
 
     pub outlined-area : (k : Kind) (start first count : ℕ) → r ≡ outline.Records k start first count → Area t b k start first count
-    outlined-area k start first count e = subst (λ (x : Outline). outlined t b x) (sym o ∙ e) (outline-says t)
+    outlined-area k start first count e = subst (λ (x : Outline). outlined t b x) (sym o ∙ e) outline-says
 
 -- the walk over an area says what the structure says
 module _ (t : Table) (b : List ℕ) (k : Kind) (start first count : ℕ) (a : Area t b k start first count) where
-  pub area-no : (n : ℕ) → records (layoutOf k) count first (from b start) ≡ refused n → structure t b ≡ refused n
+  abbrev whole : Got Structure
+  whole = structure (form t) (headedAs t b .front) (behindHeader t b)
+
+  pub area-no : (n : ℕ) → records (layoutOf k) count first (from b start) ≡ refused n → whole ≡ refused n
   unfolding giving
-  area-no n e = go (structure t b) (a .same ∙ rw e)
+  area-no n e = go whole (a .same ∙ rw e)
     where
-      go : (g : Got Structure) → giving countOf g ≡ refused n → g ≡ refused n
+      go : (g : Got Structure) → giving (λ x. x .front .count) g ≡ refused n → g ≡ refused n
       go (refused m) q = cc
       go (got x rest) q = let z : _≡_ {A = ℕ} 0 1 = cc in absurd (omega arith)
 
-  pub area-so : (rs : List (Numbered (RecordOf k))) (rest : List ℕ) → records (layoutOf k) count first (from b start) ≡ got rs rest → (x : Structure) × (structure t b ≡ got x rest) × (count ≡ countOf x)
+  map-kept : (x : Structure) (rest : List ℕ) → whole ≡ got x rest → headedAs t b .front .map ≡ x .front .map
+  unfolding structure frontOf
+  map-kept x rest e =
+      let s = then-got _ _ _ _ e in
+      let h = giving-got _ _ _ _ (s .one) in
+      let g = giving-got _ _ _ _ (s .more) in
+      sym (map-joined t (headedAs t b .front) (h .0)) ∙ ap (λ (y : Front). y .map) (sym (h .2)) ∙ ap (λ (y : Structure). y .front .map) (sym (g .2))
+
+  pub area-so : (rs : List (Numbered (RecordOf k))) (rest : List ℕ) → records (layoutOf k) count first (from b start) ≡ got rs rest
+      → (x : Structure) × (whole ≡ got x rest) × (count ≡ x .front .count) × (headedAs t b .front .map ≡ x .front .map)
   unfolding giving
-  area-so rs rest e = giving-got countOf (structure t b) count rest (a .same ∙ records-count (layoutOf k) count first (from b start) ∙ rw e)
+  area-so rs rest e =
+      let g = giving-got (λ (x : Structure). x .front .count) whole count rest (a .same ∙ rw e) in
+      (g .0, g .1, g .2, map-kept (g .0) rest (g .1))
+
+-- ---- the outline of each table
+
+-- CDS and MMS have no head
+module _ (b : List ℕ) where
+  pub cds-outline : (first count : ℕ) → first ≡ byte 4 b → count ≡ byte 5 b → outline.Records Carriers 7 first count ≡ outlineOf Cds b
+  unfolding outlineOf outlinedBy frontOf kindOf recordsAt taken unless giving headerOf countedHeader noHead
+  cds-outline first count e f = rw (le-leb 0 (length (from b 7)) (omega arith), header-byte b 1 (omega arith), header-byte b 2 (omega arith), e, f)
+
+  pub mms-outline : (first count : ℕ) → first ≡ byte 4 b → count ≡ byte 5 b → outline.Records Modes 7 first count ≡ outlineOf Mms b
+  unfolding outlineOf outlinedBy frontOf kindOf recordsAt taken unless giving headerOf countedHeader noHead
+  mms-outline first count e f = rw (le-leb 0 (length (from b 7)) (omega arith), header-byte b 1 (omega arith), header-byte b 2 (omega arith), e, f)
+
+  pub vcm-no : (n : ℕ) → taken vcmHead (λ h. true) (from b 7) ≡ refused n → outline.Refused n ≡ outlineOf Vcm b
+  unfolding outlineOf outlinedBy frontOf giving headerOf mapHeader
+  vcm-no n e = rw e
+
+  pub vcm-so : (h : VcmHead) → 7 ≤ length b - 7 → h ≡ vcmHeadOf (take 7 (from b 7)) → vcmHeadZeros (take 7 (from b 7)) ≡ true → outline.Records (Channels (h .included)) 14 0 (h .count) ≡ outlineOf Vcm b
+  unfolding outlineOf outlinedBy frontOf kindOf recordsAt giving headerOf mapHeader vcmHead
+  vcm-so h n e z = rw (taken-here vcmHead (λ h. true) b 7 n z refl, e)
+
+  pub dcm-no : (n : ℕ) → taken dcmHead (λ h. true) (from b 7) ≡ refused n → outline.Refused n ≡ outlineOf Dcm b
+  unfolding outlineOf outlinedBy frontOf giving headerOf mapHeader
+  dcm-no n e = rw e
+
+  pub dcm-so : (h : DcmHead) → 3 ≤ length b - 7 → h ≡ dcmHeadOf (take 3 (from b 7)) → dcmHeadZeros (take 3 (from b 7)) ≡ true → outline.Records Ranges 10 (h .first) (h .count) ≡ outlineOf Dcm b
+  unfolding outlineOf outlinedBy frontOf kindOf recordsAt giving headerOf mapHeader dcmHead
+  dcm-so h n e z = rw (taken-here dcmHead (λ h. true) b 7 n z refl, e)

@@ -1,10 +1,12 @@
 -- The layout of each kind of record, and where the records of each structure stand.
 use Prim.Native.Nat.{ℕ}
 use mathlib.Core.List.{List}
-use Rattle.rules.specs.Bytes.{Got, refused, got, byte, from}
-use Rattle.rules.specs.Layout.{Layout, head}
-use Rattle.rules.specs.Tables.{cds, mms, vcmHead, vcm, dcmHead, dcm}
-use Rattle.rules.specs.Section.{recordsAt}
+use Rattle.rules.specs.Bytes.{Got, refused, got}
+use Rattle.rules.specs.Layout.{Layout}
+use Rattle.rules.specs.Tables.{cds, mms, vcm, dcm}
+use Rattle.rules.specs.Form.{Front, form}
+use Rattle.rules.specs.Section.{frontOf, recordsAt}
+use Rattle.section.specs.Reads.{headedAs, behindHeader}
 use Rattle.rules.specs.declared.Table.{Table}
 use Rattle.rules.specs.declared.Table.the-variants.{Cds, Mms, Vcm, Dcm}
 use Rattle.rules.specs.declared.Carriers.{Carriers}
@@ -28,14 +30,17 @@ layoutOf kind.Modes = mms
 layoutOf (kind.Channels included) = vcm included
 layoutOf kind.Ranges = dcm
 
--- by what the head says, or its refusal
-unfoldable pub headed : {R : Type 0} → (R → Outline) → Got R → Outline
-headed f (refused n) = outline.Refused n
-headed f (got h rest) = f h
+-- the kind of a table's records, by what stands in front of them
+unfoldable pub kindOf : Table → Front → Kind
+kindOf Cds y = kind.Carriers
+kindOf Mms y = kind.Modes
+kindOf Vcm y = kind.Channels (y .included)
+kindOf Dcm y = kind.Ranges
+
+unfoldable pub outlinedBy : Table → List ℕ → Got Front → Outline
+outlinedBy t b (refused n) = outline.Refused n
+outlinedBy t b (got y rest) = outline.Records (kindOf t y) (recordsAt t b) (y .first) (y .count)
 
 -- of the section without its CRC: kind, place, first index or channel, and count of its records
 unfoldable pub outlineOf : Table → List ℕ → Outline
-outlineOf Cds b = outline.Records kind.Carriers (recordsAt Cds) (byte 4 b) (byte 5 b)
-outlineOf Mms b = outline.Records kind.Modes (recordsAt Mms) (byte 4 b) (byte 5 b)
-outlineOf Vcm b = headed (λ h. outline.Records (kind.Channels (h .included)) (recordsAt Vcm) 0 (h .count)) (head vcmHead (from b 7))
-outlineOf Dcm b = headed (λ h. outline.Records kind.Ranges (recordsAt Dcm) (h .first) (h .length)) (head dcmHead (from b 7))
+outlineOf t b = outlinedBy t b (frontOf (form t) (headedAs t b .front) (behindHeader t b))

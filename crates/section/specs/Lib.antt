@@ -1,3 +1,3 @@
+pub mod Reads
 pub mod Kinds
 pub mod Closes
-pub mod Reads

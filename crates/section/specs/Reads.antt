@@ -2,8 +2,11 @@
 use mathlib.Core.List.{List}
 use mathlib.Core.Option.{Option, none, some}
 use Prim.Native.Nat.{ℕ}
-use Rattle.rules.specs.Bytes.{Got, refused, got}
-use Rattle.rules.specs.Section.{Content, headOf}
+use lib.ListN.{take}
+use Rattle.rules.specs.Bytes.{Got, refused, got, from}
+use Rattle.rules.specs.Layout.{extent}
+use Rattle.rules.specs.Form.{form}
+use Rattle.rules.specs.Section.{headerOf, Headed, Content, headOf}
 use Rattle.rules.specs.declared.Table.{Table}
 use Rattle.rules.specs.declared.Read.{Read}
 use Rattle.rules.specs.declared.Read.the-variants as read
@@ -16,9 +19,17 @@ unfoldable pub namedAs : Option Table → Named
 namedAs none = named.Nothing
 namedAs (some t) = named.Table t
 
-unfoldable pub headerAs : Got Table → Header
+unfoldable pub headerAs : Got Headed → Header
 headerAs (refused n) = header.Refused n
-headerAs (got t rest) = header.Names t
+headerAs (got h rest) = header.Names (h .table)
+
+-- what the header of a table says, in a section without its CRC, and the bytes behind it
+abbrev pub headedAs : Table → List ℕ → Headed
+headedAs t b =
+    record { table = t; front = headerOf (form t) .look (take (extent (headerOf (form t)) b) b) }
+
+abbrev pub behindHeader : Table → List ℕ → List ℕ
+behindHeader t b = from b (extent (headerOf (form t)) b)
 
 -- the reader's answer, of the section without its CRC
 unfoldable pub shown : List ℕ → Got Content → Read

@@ -1,8 +1,10 @@
 // The header: the table that a section is of, refusal 7, and the header's own 8, 9 and 10. b is a section without its CRC.
 ghost use mathlib.Core.Path.{_≡_};
-ghost use Rattle.rules.specs.Section.{mediumAt, named, headerWhole, mapOf};
+ghost use Rattle.rules.specs.Bytes.{byte};
+ghost use Rattle.rules.specs.Form.{form};
+ghost use Rattle.rules.specs.Section.{mediumAt, named, headerBy};
 ghost use Rattle.rules.specs.Section as rule;
-ghost use Rattle.section.specs.Reads.{namedAs, headerAs};
+ghost use Rattle.section.specs.Reads.{namedAs, headerAs, headedAs};
 use rules::Table;
 
 // Bytes of the header.
@@ -32,6 +34,9 @@ fn table_named(number: u8, medium: u8) -> Named
         }
         return Named::Nothing;
     }
+    if number != 0xC4 {
+        return Named::Nothing;
+    }
     if medium == 0 {
         return Named::Table(Table::Vcm);
     }
@@ -41,11 +46,22 @@ fn table_named(number: u8, medium: u8) -> Named
     Named::Nothing
 }
 
+// First index 0 is 10; 0xC4 has no limits in its header.
+fn is_fair(t: Table, b: &[u8]) -> bool
+    ensures { λ r. ⌜ r ≡ form t .limits (headedAs t (now (b .entry)) .front) ⌝ }
+{
+    match t {
+        Table::Cds => 0 < fields::byte(b, 4),
+        Table::Mms => 0 < fields::byte(b, 4),
+        Table::Vcm => true,
+        Table::Dcm => true,
+    }
+}
+
 // The header whole, once its table is known: 8 before 9 before 10.
 fn header_whole(t: Table, b: &[u8]) -> Header
-    ensures { λ r. ⌜ r ≡ headerAs (headerWhole t (now (b .entry))) ⌝ }
+    ensures { λ r. ⌜ r ≡ headerAs (headerBy t (now (b .entry))) ⌝ }
 {
-    let number = fields::byte(b, 0);
     let high = fields::byte(b, 1);
     let protocol = fields::byte(b, 3);
     if b.len() < SIZE {
@@ -57,18 +73,15 @@ fn header_whole(t: Table, b: &[u8]) -> Header
     if protocol / 32 != 0 {
         return Header::Refused(9);
     }
-    if number == 0xC4 {
+    if is_fair(t, b) {
         return Header::Names(t);
     }
-    if fields::byte(b, 4) < 1 {
-        return Header::Refused(10);
-    }
-    Header::Names(t)
+    Header::Refused(10)
 }
 
 // Where the byte of medium and subtype stands.
 fn medium_at(b: &[u8]) -> usize
-    ensures { λ r. ⌜ r ≡ mediumAt (now (b .entry)) ⌝ }
+    ensures { λ r. ⌜ r ≡ mediumAt (byte 0 (now (b .entry))) ⌝ }
 {
     if fields::byte(b, 0) == 0xC2 {
         return 6;
@@ -92,14 +105,15 @@ pub fn header_of(b: &[u8]) -> Header
 }
 
 // The map number of 0xC4, or 0.
-pub fn map_of(b: &[u8]) -> u16
-    ensures { λ r. ⌜ r ≡ mapOf (now (b .entry)) ⌝ }
+pub fn map_of(t: Table, b: &[u8]) -> u16
+    ensures { λ r. ⌜ r ≡ headedAs t (now (b .entry)) .front .map ⌝ }
 {
-    let number = fields::byte(b, 0);
     let high = fields::byte(b, 5);
     let low = fields::byte(b, 6);
-    if number == 0xC4 {
-        return high as u16 * 256 + low as u16;
+    match t {
+        Table::Cds => 0,
+        Table::Mms => 0,
+        Table::Vcm => high as u16 * 256 + low as u16,
+        Table::Dcm => high as u16 * 256 + low as u16,
     }
-    0
 }

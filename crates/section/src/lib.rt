@@ -1,12 +1,10 @@
 // One section: what it reads as, refusals 3 to 11, and the question for a descriptor of its closing list.
-ghost use mathlib.Core.Bool.{_||_};
 ghost use mathlib.Core.Path.{_≡_};
 ghost use Prim.Native.Nat.{_≤_};
-ghost use lib.Dec.{eqb};
 ghost use lib.ListN.{length};
-ghost use Rattle.rules.specs.Section.{fitting, contentOf, content, readSection, readAs, ask, partOf};
+ghost use Rattle.rules.specs.Section.{isNumber, fitting, contentOf, content, readSection, readAs, ask, partOf};
 ghost use Rattle.rules.specs.Said.{readSaid, askedSaid, sectionSaid, askSaid};
-ghost use Rattle.section.specs.Reads.{shown};
+ghost use Rattle.section.specs.Reads.{headedAs, behindHeader, shown};
 use closing::Closed;
 use fields::Skip;
 use header::Header;
@@ -36,7 +34,7 @@ fn is_fitting(s: &[u8]) -> bool
 
 // 0xC2 or 0xC4: else 4.
 fn is_table_number(number: u8) -> bool
-    ensures { λ r. ⌜ r ≡ (eqb number 0xC2 || eqb number 0xC4) ⌝ }
+    ensures { λ r. ⌜ r ≡ isNumber number ⌝ }
 {
     if number == 0xC2 {
         return true;
@@ -47,7 +45,7 @@ fn is_table_number(number: u8) -> bool
 // Behind the header: the structure, then the closing list.
 fn structured(t: Table, b: &[u8]) -> Read
     requires { ⌜ 7 ≤ length (now b) ⌝ }
-    ensures { λ r. ⌜ r ≡ shown (now (b .entry)) (contentOf t (now (b .entry))) ⌝ }
+    ensures { λ r. ⌜ r ≡ shown (now (b .entry)) (contentOf (headedAs t (now (b .entry))) (behindHeader t (now (b .entry)))) ⌝ }
 {
     let outline = structure::outline_of(t, b);
     match outline {
@@ -67,7 +65,7 @@ fn structured(t: Table, b: &[u8]) -> Read
                         Closed::Refused(n) => Read::Refused(n),
                         Closed::Revised(revision) => Read::Right(SectionHead {
                             table: t,
-                            map: header::map_of(b),
+                            map: header::map_of(t, b),
                             revision,
                             records: start,
                             count,

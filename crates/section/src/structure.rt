@@ -78,7 +78,7 @@ fn dcm_outline(b: &[u8]) -> Outline
             kind: Kind::Ranges,
             start: header::SIZE + dcm::HEAD,
             first: h.first,
-            count: h.length,
+            count: h.count,
         };
     }
     Outline::Refused(9)

@@ -3,13 +3,13 @@ use native.Mathlib.Omega.{arith}
 use denote.Ref.{now}
 use borrow.Author.Needs.{needs}
 use Rattle.rules.specs.Tables.{cds}
-use Rattle.fields.proofs.Laws.{part-whole, too-short, long-enough, bare-short, bare-zeros, bare-unfair, bare-here, step-no, step-so}
+use Rattle.fields.proofs.Laws.{part-whole, too-short, long-enough, taken-short, taken-zeros, taken-unfair, taken-here, step-no, step-so}
 use Rattle.cds.proofs.carriers_step.Statement.{statement}
 use Rattle.cds.proofs.carriers_step.Tie as tie
 
 returns : tie.Need-returns
 unfolding cds
-returns c = step-no cds _ _ _ _ (bare-short cds _ _ _ (omega (arith, too-short _ _ _ (c .before .short .ensures) (c .if1 .taken))))
+returns c = step-no cds _ _ _ _ (taken-short (cds .block) _ _ _ (omega (arith, too-short _ _ _ (c .before .short .ensures) (c .if1 .taken))))
 
 add-r : tie.Need-add-r
 add-r c = omega (arith, long-enough _ _ _ (c .before .short .ensures) (c .if1 .left))
@@ -29,7 +29,7 @@ returns-2 c =
     let a = f .before .before .before .args in
     let h = long-enough _ _ _ (f .before .short .ensures) (f .if1 .left) in
     let p = part-whole (now (a .b)) (a .at) 5 in
-    step-so cds _ _ _ (bare-here cds _ _ _ (omega (arith, h)) (cc) (cc)) _ (c .past-counted .ensures)
+    step-so cds _ _ _ (taken-here (cds .block) _ _ _ (omega (arith, h)) (cc) (cc)) _ (c .past-counted .ensures)
 
 returns-3 : tie.Need-returns-3
 unfolding cds
@@ -38,7 +38,7 @@ returns-3 c =
     let a = f .before .before .before .args in
     let h = long-enough _ _ _ (f .before .short .ensures) (f .if1 .left) in
     let p = part-whole (now (a .b)) (a .at) 5 in
-    step-no cds _ _ _ _ (bare-unfair cds _ _ _ (omega (arith, h)) (cc) (cc))
+    step-no cds _ _ _ _ (taken-unfair (cds .block) _ _ _ (omega (arith, h)) (cc) (cc))
 
 returns-4 : tie.Need-returns-4
 unfolding cds
@@ -47,7 +47,7 @@ returns-4 c =
     let a = f .before .before .before .args in
     let h = long-enough _ _ _ (f .before .short .ensures) (f .if1 .left) in
     let p = part-whole (now (a .b)) (a .at) 5 in
-    step-no cds _ _ _ _ (bare-zeros cds _ _ _ (omega (arith, h)) (cc))
+    step-no cds _ _ _ _ (taken-zeros (cds .block) _ _ _ (omega (arith, h)) (cc))
 
 pub carriers-step-spec : {M : Type 1} → statement M
 carriers-step-spec =

@@ -5,7 +5,7 @@ use denote.Ref.{now}
 use borrow.Author.Needs.{needs}
 use Rattle.rules.specs.Tables.{cds}
 use Rattle.rules.proofs.Taken.{differ}
-use Rattle.fields.proofs.Laws.{part-whole, long-enough, stands-at, counted-zero, bare-here, step-so}
+use Rattle.fields.proofs.Laws.{part-whole, long-enough, stands-at, counted-zero, taken-here, step-so}
 use Rattle.cds.proofs.is_plain.Statement.{statement}
 use Rattle.cds.proofs.is_plain.Tie as tie
 
@@ -29,7 +29,7 @@ returns-3 c = λ e.
     let h = long-enough _ _ _ (f .before .short .ensures) (f .if1 .left) in
     let p = part-whole (now (a .b)) (a .at) 5 in
     let fair = sym (c .carriers-fair .ensures) ∙ e in
-    step-so cds _ _ _ (bare-here cds _ _ _ (omega (arith, h)) (cc) (cc)) _
+    step-so cds _ _ _ (taken-here (cds .block) _ _ _ (omega (arith, h)) (cc) (cc)) _
     (stands-at _ _ _ _ (counted-zero (now (a .b)) _ _ refl (omega (arith, h)) (c .before .before .before .before .before .if2 .left)) (omega (arith, h)))
 
 pub is-plain-spec : {M : Type 1} → statement M

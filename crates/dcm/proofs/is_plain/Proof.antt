@@ -5,7 +5,7 @@ use denote.Ref.{now}
 use borrow.Author.Needs.{needs}
 use Rattle.rules.specs.Tables.{dcm}
 use Rattle.rules.proofs.Taken.{differ}
-use Rattle.fields.proofs.Laws.{part-whole, long-enough, stands-at, counted-not, bare-here, step-so}
+use Rattle.fields.proofs.Laws.{part-whole, long-enough, stands-at, counted-not, taken-here, step-so}
 use Rattle.dcm.proofs.is_plain.Statement.{statement}
 use Rattle.dcm.proofs.is_plain.Tie as tie
 
@@ -23,7 +23,7 @@ returns-2 c = λ e.
     let h = long-enough _ _ _ (f .before .short .ensures) (f .if1 .left) in
     let p = part-whole (now (a .b)) (a .at) 1 in
     let fair = sym (c .range-fair .ensures) ∙ e in
-    step-so dcm _ _ _ (bare-here dcm _ _ _ (omega (arith, h)) refl (cc)) _ (stands-at _ _ _ _ (counted-not _ _ _ refl) (omega (arith, h)))
+    step-so dcm _ _ _ (taken-here (dcm .block) _ _ _ (omega (arith, h)) refl (cc)) _ (stands-at _ _ _ _ (counted-not _ _ _ refl) (omega (arith, h)))
 
 pub is-plain-spec : {M : Type 1} → statement M
 is-plain-spec =

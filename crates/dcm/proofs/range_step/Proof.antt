@@ -4,13 +4,13 @@ use mathlib.Core.Path.{refl}
 use denote.Ref.{now}
 use borrow.Author.Needs.{needs}
 use Rattle.rules.specs.Tables.{dcm}
-use Rattle.fields.proofs.Laws.{part-whole, too-short, long-enough, stands-at, counted-not, bare-short, bare-unfair, bare-here, step-no, step-so}
+use Rattle.fields.proofs.Laws.{part-whole, too-short, long-enough, stands-at, counted-not, taken-short, taken-unfair, taken-here, step-no, step-so}
 use Rattle.dcm.proofs.range_step.Statement.{statement}
 use Rattle.dcm.proofs.range_step.Tie as tie
 
 returns : tie.Need-returns
 unfolding dcm
-returns c = step-no dcm _ _ _ _ (bare-short dcm _ _ _ (omega (arith, too-short _ _ _ (c .before .short .ensures) (c .if1 .taken))))
+returns c = step-no dcm _ _ _ _ (taken-short (dcm .block) _ _ _ (omega (arith, too-short _ _ _ (c .before .short .ensures) (c .if1 .taken))))
 
 add-range-of : tie.Need-add-range-of
 add-range-of c = omega (arith, long-enough _ _ _ (c .before .short .ensures) (c .if1 .left))
@@ -30,7 +30,7 @@ returns-2 c =
     let a = f .before .before .before .args in
     let h = long-enough _ _ _ (f .before .short .ensures) (f .if1 .left) in
     let p = part-whole (now (a .b)) (a .at) 1 in
-    step-so dcm _ _ _ (bare-here dcm _ _ _ (omega (arith, h)) refl (cc)) _ (stands-at _ _ _ _ (counted-not _ _ _ refl) (omega (arith, h)))
+    step-so dcm _ _ _ (taken-here (dcm .block) _ _ _ (omega (arith, h)) refl (cc)) _ (stands-at _ _ _ _ (counted-not _ _ _ refl) (omega (arith, h)))
 
 returns-3 : tie.Need-returns-3
 unfolding dcm
@@ -39,7 +39,7 @@ returns-3 c =
     let a = f .before .before .before .args in
     let h = long-enough _ _ _ (f .before .short .ensures) (f .if1 .left) in
     let p = part-whole (now (a .b)) (a .at) 1 in
-    step-no dcm _ _ _ _ (bare-unfair dcm _ _ _ (omega (arith, h)) refl (cc))
+    step-no dcm _ _ _ _ (taken-unfair (dcm .block) _ _ _ (omega (arith, h)) refl (cc))
 
 pub range-step-spec : {M : Type 1} → statement M
 range-step-spec =

@@ -8,7 +8,7 @@ use borrow.Author.Tests.{le-leb}
 use Rattle.rules.specs.Bytes.{from}
 use Rattle.rules.specs.Tables.{modeZeros, modeOf, assigned, modeFair, mms}
 use Rattle.rules.proofs.Taken.{differ, both-left, both-right}
-use Rattle.fields.proofs.Laws.{part-whole, long-enough, stands-at, counted-zero, bare-here, step-so}
+use Rattle.fields.proofs.Laws.{part-whole, long-enough, stands-at, counted-zero, taken-here, step-so}
 use Rattle.mms.proofs.is_plain.Statement.{statement}
 use Rattle.mms.proofs.is_plain.Tie as tie
 
@@ -34,7 +34,7 @@ returns-4 c = λ e.
     let both = rw (part-whole (now (a .b)) (a .at) 6) at (c .is-assigned .ensures e) in
     let zeros = both-left (modeZeros r) (assigned (modeOf r)) both in
     let values = both-right (modeZeros r) (assigned (modeOf r)) both in
-    step-so mms _ _ _ (bare-here mms _ _ _ (omega (arith, h)) zeros (rw (values, le-leb (a .index) 255 (omega (arith, c .before .before .if3 .left))))) _
+    step-so mms _ _ _ (taken-here (mms .block) _ _ _ (omega (arith, h)) zeros (rw (values, le-leb (a .index) 255 (omega (arith, c .before .before .if3 .left))))) _
     (stands-at _ _ _ _ (counted-zero (now (a .b)) _ _ refl (omega (arith, h)) (c .before .before .before .if2 .left)) (omega (arith, h)))
 
 pub is-plain-spec : {M : Type 1} → statement M

@@ -3,13 +3,13 @@ use native.Mathlib.Omega.{arith}
 use denote.Ref.{now}
 use borrow.Author.Needs.{needs}
 use Rattle.rules.specs.Tables.{mms}
-use Rattle.fields.proofs.Laws.{part-whole, too-short, long-enough, bare-short, bare-zeros, bare-unfair, bare-here, step-no, step-so}
+use Rattle.fields.proofs.Laws.{part-whole, too-short, long-enough, taken-short, taken-zeros, taken-unfair, taken-here, step-no, step-so}
 use Rattle.mms.proofs.mode_step.Statement.{statement}
 use Rattle.mms.proofs.mode_step.Tie as tie
 
 returns : tie.Need-returns
 unfolding mms
-returns c = step-no mms _ _ _ _ (bare-short mms _ _ _ (omega (arith, too-short _ _ _ (c .before .short .ensures) (c .if1 .taken))))
+returns c = step-no mms _ _ _ _ (taken-short (mms .block) _ _ _ (omega (arith, too-short _ _ _ (c .before .short .ensures) (c .if1 .taken))))
 
 add-r : tie.Need-add-r
 add-r c = omega (arith, long-enough _ _ _ (c .before .short .ensures) (c .if1 .left))
@@ -29,7 +29,7 @@ returns-2 c =
     let a = f .before .before .before .args in
     let h = long-enough _ _ _ (f .before .short .ensures) (f .if1 .left) in
     let p = part-whole (now (a .b)) (a .at) 6 in
-    step-so mms _ _ _ (bare-here mms _ _ _ (omega (arith, h)) (cc) (cc)) _ (c .past-counted .ensures)
+    step-so mms _ _ _ (taken-here (mms .block) _ _ _ (omega (arith, h)) (cc) (cc)) _ (c .past-counted .ensures)
 
 returns-3 : tie.Need-returns-3
 unfolding mms
@@ -38,7 +38,7 @@ returns-3 c =
     let a = f .before .before .before .args in
     let h = long-enough _ _ _ (f .before .short .ensures) (f .if1 .left) in
     let p = part-whole (now (a .b)) (a .at) 6 in
-    step-no mms _ _ _ _ (bare-unfair mms _ _ _ (omega (arith, h)) (cc) (cc))
+    step-no mms _ _ _ _ (taken-unfair (mms .block) _ _ _ (omega (arith, h)) (cc) (cc))
 
 returns-4 : tie.Need-returns-4
 unfolding mms
@@ -47,7 +47,7 @@ returns-4 c =
     let a = f .before .before .before .args in
     let h = long-enough _ _ _ (f .before .short .ensures) (f .if1 .left) in
     let p = part-whole (now (a .b)) (a .at) 6 in
-    step-no mms _ _ _ _ (bare-zeros mms _ _ _ (omega (arith, h)) (cc))
+    step-no mms _ _ _ _ (taken-zeros (mms .block) _ _ _ (omega (arith, h)) (cc))
 
 pub mode-step-spec : {M : Type 1} → statement M
 mode-step-spec =

@@ -2,21 +2,20 @@
 use mathlib.Core.Path.{sym, ap, _∙_}
 use borrow.Author.Needs.{needs}
 use Rattle.section.specs.Reads.{shown}
-use Rattle.rules.proofs.Right.{header-facts}
-use Rattle.section.proofs.Whole.{header-got, header-no, shown-no, content-unheaded, content-headed}
+use Rattle.section.proofs.Whole.{header-no, header-is, shown-no, content-unheaded, content-headed}
 use Rattle.section.proofs.content_of.Statement.{statement}
 use Rattle.section.proofs.content_of.Tie as tie
 
 structured-requires : tie.Need-structured-requires
-structured-requires c κs = let g = header-got _ _ (sym (c .before .header2 .given .1) ∙ c .before .before .before .header-of .ensures) in header-facts _ _ (g .0) (g .1) .0
+structured-requires c κs = header-is _ _ (sym (c .before .header2 .given .1) ∙ c .before .before .before .header-of .ensures) .1
 
 returns : tie.Need-returns
 returns c = shown-no _ _ _ (content-unheaded _ _ (header-no _ _ (sym (c .before .header .given .1) ∙ c .before .before .before .header-of .ensures)))
 
 returns-2 : tie.Need-returns-2
 returns-2 c =
-    let g = header-got _ _ (sym (c .before .before .header2 .given .1) ∙ c .before .before .before .before .header-of .ensures) in
-    c .structured .ensures ∙ ap (shown _) (sym (content-headed _ _ (g .0) (g .1)))
+    let g = header-is _ _ (sym (c .before .before .header2 .given .1) ∙ c .before .before .before .before .header-of .ensures) in
+    c .structured .ensures ∙ ap (shown _) (sym (content-headed _ _ _ (g .0)))
 
 pub content-of-spec : {M : Type 1} → statement M
 content-of-spec =

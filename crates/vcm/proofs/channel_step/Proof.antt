@@ -4,7 +4,7 @@ use denote.Ref.{now}
 use borrow.Author.Needs.{needs}
 use borrow.Author.Tests.{eq-eqb, ne-eqb}
 use Rattle.rules.specs.Tables.{vcm, channelFair}
-use Rattle.fields.proofs.Laws.{part-whole, too-short, long-enough, stands-at, counted-not, bare-short, bare-zeros, bare-unfair, bare-here, step-no, step-so}
+use Rattle.fields.proofs.Laws.{part-whole, too-short, long-enough, stands-at, counted-not, taken-short, taken-zeros, taken-unfair, taken-here, step-no, step-so}
 use Rattle.vcm.proofs.channel_step.Statement.{statement}
 use Rattle.vcm.proofs.channel_step.Tie as tie
 
@@ -12,7 +12,7 @@ returns : tie.Need-returns
 unfolding vcm
 returns c =
     let l = vcm (c .before .before .before .args .included) in
-    step-no l _ _ _ _ (bare-short l _ _ _ (omega (arith, too-short _ _ _ (c .before .short .ensures) (c .if1 .taken))))
+    step-no l _ _ _ _ (taken-short (l .block) _ _ _ (omega (arith, too-short _ _ _ (c .before .short .ensures) (c .if1 .taken))))
 
 add-r : tie.Need-add-r
 add-r c = omega (arith, long-enough _ _ _ (c .before .short .ensures) (c .if1 .left))
@@ -33,7 +33,7 @@ returns-2 c =
     let h = long-enough _ _ _ (f .before .short .ensures) (f .if1 .left) in
     let p = part-whole (now (a .b)) (a .at) 9 in
     let l = vcm (a .included) in
-    step-so l _ _ _ (bare-here l _ _ _ (omega (arith, h)) (cc) (cc)) _
+    step-so l _ _ _ (taken-here (l .block) _ _ _ (omega (arith, h)) (cc) (cc)) _
     (rw (eq-eqb (a .included) 1 (c .before .if4 .taken)) (c .past-counted .ensures))
 
 add-behind : tie.Need-add-t14
@@ -49,7 +49,7 @@ returns-3 c =
     let h = long-enough _ _ _ (f .before .short .ensures) (f .if1 .left) in
     let p = part-whole (now (a .b)) (a .at) 9 in
     let l = vcm (a .included) in
-    step-so l _ _ _ (bare-here l _ _ _ (omega (arith, h)) (cc) (cc)) _
+    step-so l _ _ _ (taken-here (l .block) _ _ _ (omega (arith, h)) (cc) (cc)) _
     (stands-at _ _ _ _ (counted-not _ _ _ (ne-eqb (a .included) 1 (c .if4 .left))) (omega (arith, h)))
 
 returns-4 : tie.Need-returns-4
@@ -60,7 +60,7 @@ returns-4 c =
     let h = long-enough _ _ _ (f .before .short .ensures) (f .if1 .left) in
     let p = part-whole (now (a .b)) (a .at) 9 in
     let l = vcm (a .included) in
-    step-no l _ _ _ _ (bare-unfair l _ _ _ (omega (arith, h)) (cc) (cc))
+    step-no l _ _ _ _ (taken-unfair (l .block) _ _ _ (omega (arith, h)) (cc) (cc))
 
 returns-5 : tie.Need-returns-5
 unfolding vcm
@@ -70,7 +70,7 @@ returns-5 c =
     let h = long-enough _ _ _ (f .before .short .ensures) (f .if1 .left) in
     let p = part-whole (now (a .b)) (a .at) 9 in
     let l = vcm (a .included) in
-    step-no l _ _ _ _ (bare-zeros l _ _ _ (omega (arith, h)) (cc))
+    step-no l _ _ _ _ (taken-zeros (l .block) _ _ _ (omega (arith, h)) (cc))
 
 pub channel-step-spec : {M : Type 1} → statement M
 channel-step-spec =

@@ -9,7 +9,7 @@ use borrow.Author.Tests.{eq-eqb, ne-eqb}
 use Rattle.rules.specs.Bytes.{from}
 use Rattle.rules.specs.Tables.{channelOf, channelZeros, channelFair, vcm}
 use Rattle.rules.proofs.Taken.{differ, both-left, both-right}
-use Rattle.fields.proofs.Laws.{part-whole, long-enough, stands-at, counted-zero, counted-not, bare-here, step-so}
+use Rattle.fields.proofs.Laws.{part-whole, long-enough, stands-at, counted-zero, counted-not, taken-here, step-so}
 use Rattle.vcm.specs.Tail.{tailOf}
 use Rattle.vcm.proofs.is_plain.Statement.{statement}
 use Rattle.vcm.proofs.is_plain.Tie as tie
@@ -36,7 +36,7 @@ returns-3 c = λ e.
     let both = rw (part-whole (now (a .b)) (a .at) 9) at (c .is-right .ensures e) in
     let l = vcm (a .included) in
     let one = eq-eqb (a .included) 1 (c .before .before .before .before .before .before .if1 .taken) in
-    step-so l _ _ _ (bare-here l _ _ _ (omega (arith, h)) (both-left (channelZeros r) (channelFair 0 (channelOf r)) both) (both-right (channelZeros r) (channelFair 0 (channelOf r)) both)) _
+    step-so l _ _ _ (taken-here (l .block) _ _ _ (omega (arith, h)) (both-left (channelZeros r) (channelFair 0 (channelOf r)) both) (both-right (channelZeros r) (channelFair 0 (channelOf r)) both)) _
     (rw one (stands-at _ _ _ _ (counted-zero (now (a .b)) _ _ refl (omega (arith, h)) (c .before .before .if3 .left)) (omega (arith, h))))
 
 add-is-right-2 : tie.Need-add-is-right-2
@@ -55,7 +55,7 @@ returns-5 c = λ e.
     let both = rw (part-whole (now (a .b)) (a .at) 9) at (c .is-right2 .ensures e) in
     let l = vcm (a .included) in
     let not = ne-eqb (a .included) 1 (c .before .before .before .before .if1 .left) in
-    step-so l _ _ _ (bare-here l _ _ _ (omega (arith, h)) (both-left (channelZeros r) (channelFair 0 (channelOf r)) both) (both-right (channelZeros r) (channelFair 0 (channelOf r)) both)) _
+    step-so l _ _ _ (taken-here (l .block) _ _ _ (omega (arith, h)) (both-left (channelZeros r) (channelFair 0 (channelOf r)) both) (both-right (channelZeros r) (channelFair 0 (channelOf r)) both)) _
     (rw (not, add-zero) (stands-at _ _ _ _ (counted-not _ _ _ refl) (omega (arith, h))))
 
 pub is-plain-spec : {M : Type 1} → statement M

@@ -1,26 +1,23 @@
 -- The head is taken whole: 8, then 9; it has no limits.
 use native.Mathlib.Omega.{arith}
-use mathlib.Core.Path.{refl}
 use borrow.Author.Needs.{needs}
 use Rattle.rules.specs.Tables.{dcmHead}
-use Rattle.rules.specs.Section.{recordsAt}
-use Rattle.fields.proofs.Laws.{too-short, long-enough, bare-short, bare-zeros, bare-here, head-no, head-so}
-use Rattle.section.specs.Kinds.{outlineOf}
-use Rattle.section.proofs.Walks.{headed-no, headed-so}
+use Rattle.fields.proofs.Laws.{too-short, long-enough, taken-short, taken-zeros}
+use Rattle.section.proofs.Walks.{dcm-no, dcm-so}
 use Rattle.section.proofs.structure.dcm_outline.Statement.{statement}
 use Rattle.section.proofs.structure.dcm_outline.Tie as tie
 
 returns : tie.Need-returns
-unfolding outlineOf recordsAt dcmHead
-returns c = headed-no _ _ _ (head-no dcmHead _ _ _ (bare-short dcmHead _ _ 0 (omega (arith, too-short _ _ _ (c .before .short .ensures) (c .if1 .taken)))))
+unfolding dcmHead
+returns c = dcm-no _ _ (taken-short dcmHead _ _ 7 (omega (arith, too-short _ _ _ (c .before .short .ensures) (c .if1 .taken))))
 
 returns-2 : tie.Need-returns-2
-unfolding outlineOf recordsAt dcmHead
-returns-2 c = headed-so _ _ _ _ (head-so dcmHead _ _ (c .head-of .result) (cc) (bare-here dcmHead _ _ 0 (omega (arith, long-enough _ _ _ (c .before .before .before .before .before .short .ensures) (c .before .before .before .before .if1 .left))) (cc) refl))
+unfolding dcmHead
+returns-2 c = dcm-so _ (c .head-of .result) (omega (arith, long-enough _ _ _ (c .before .before .before .before .before .short .ensures) (c .before .before .before .before .if1 .left))) (cc) (cc)
 
 returns-3 : tie.Need-returns-3
-unfolding outlineOf recordsAt dcmHead
-returns-3 c = headed-no _ _ _ (head-no dcmHead _ _ _ (bare-zeros dcmHead _ _ 0 (omega (arith, long-enough _ _ _ (c .before .before .before .before .short .ensures) (c .before .before .before .if1 .left))) (cc)))
+unfolding dcmHead
+returns-3 c = dcm-no _ _ (taken-zeros dcmHead _ _ 7 (omega (arith, long-enough _ _ _ (c .before .before .before .before .short .ensures) (c .before .before .before .if1 .left))) (cc))
 
 pub dcm-outline-spec : {M : Type 1} → statement M
 dcm-outline-spec =

@@ -1,17 +1,14 @@
 -- The records of 0xC2 stand right behind the header, those of 0xC4 behind a head.
 use borrow.Author.Needs.{needs}
-use Rattle.rules.specs.Section.{recordsAt}
-use Rattle.section.specs.Kinds.{outlineOf}
+use Rattle.section.proofs.Walks.{cds-outline, mms-outline}
 use Rattle.section.proofs.structure.outline_of.Statement.{statement}
 use Rattle.section.proofs.structure.outline_of.Tie as tie
 
 returns : tie.Need-returns
-unfolding outlineOf recordsAt
-returns c = rw (c .before .before .enum-told .given .1, c .byte2 .ensures, c .before .byte .ensures)
+returns c = rw (c .before .before .enum-told .given .1) (cds-outline _ _ _ (c .before .byte .ensures) (c .byte2 .ensures))
 
 returns-2 : tie.Need-returns-2
-unfolding outlineOf recordsAt
-returns-2 c = rw (c .before .before .enum-told2 .given .1, c .byte4 .ensures, c .before .byte3 .ensures)
+returns-2 c = rw (c .before .before .enum-told2 .given .1) (mms-outline _ _ _ (c .before .byte3 .ensures) (c .byte4 .ensures))
 
 returns-3 : tie.Need-returns-3
 returns-3 c = rw (c .before .enum-told3 .given .1) (c .vcm-outline .ensures)
