@@ -52,10 +52,11 @@ pub record Form : Type 1 where
   pub Head : Type 0
   pub head : Block Head
   pub joined : Front → Head → Front
-  -- its records, by what stands in front of them, and where a plant has them
+  -- its records, laid out by what stands in front of them; the plant that has just these, and those that a plant has
   pub Row : Type 0
   pub layout : Front → Layout Row
   pub says : List (Numbered Row) → Plant
+  pub listed : Plant → List (Numbered Row)
 
 -- byte 3: 3 zero bits, 5 bits protocol version
 unfoldable pub protocolZeros : List ℕ → Bool
@@ -72,8 +73,9 @@ unfoldable pub noHead : Block (Unit {0})
 noHead = fixed 0 (λ r. true) (λ r. tt)
 
 -- refusal 10: first index 0
-abbrev pub network : {R : Type 0} → (subtype : ℕ) → Layout R → (List (Numbered R) → Plant) → Form
-network {R} subtype layout says =
+abbrev pub network : {R : Type 0} → (subtype : ℕ) → Layout R → (List (Numbered R) → Plant) → (Plant → List (Numbered R))
+    → Form
+network {R} subtype layout says listed =
     record {
       number = 0xC2;
       medium = 6;
@@ -87,6 +89,7 @@ network {R} subtype layout says =
       Row = R;
       layout = λ x. layout;
       says = says;
+      listed = listed;
     }
 
 -- "0xC4: 4 bits medium, 4 bits subtype, 16 bits map number, then the structure"
@@ -96,8 +99,8 @@ mapHeader =
     record { map = word 2 r; first = 0; count = 0; included = 0; splice = 0; time = 0 })
 
 abbrev pub channelTable : {H R : Type 0} → (subtype : ℕ) → Block H → (Front → H → Front) → (Front → Layout R)
-    → (List (Numbered R) → Plant) → Form
-channelTable {H} {R} subtype head joined layout says =
+    → (List (Numbered R) → Plant) → (Plant → List (Numbered R)) → Form
+channelTable {H} {R} subtype head joined layout says listed =
     record {
       number = 0xC4;
       medium = 4;
@@ -111,23 +114,24 @@ channelTable {H} {R} subtype head joined layout says =
       Row = R;
       layout = layout;
       says = says;
+      listed = listed;
     }
 
 -- ---- "Four tables: the carrier (CDS) and modulation (MMS) subtables of the Network Information Table, 0xC2, subtypes 1 and 2; the
 -- virtual channel map (VCM) and defined channels map (DCM) of the Short-form Virtual Channel Table, 0xC4, subtypes 0 and 1."
 
 abbrev pub form : Table → Form
-form Cds = network 1 cds (λ rs. record { carriers = rs; modes = []; channels = []; ranges = [] })
-form Mms = network 2 mms (λ rs. record { carriers = []; modes = rs; channels = []; ranges = [] })
+form Cds = network 1 cds (λ rs. record { carriers = rs; modes = []; channels = []; ranges = [] }) (λ p. p .carriers)
+form Mms = network 2 mms (λ rs. record { carriers = []; modes = rs; channels = []; ranges = [] }) (λ p. p .modes)
 form Vcm =
     channelTable 0 vcmHead
     (λ x h.
     record { map = x .map; first = 0; count = h .count; included = h .included; splice = h .splice; time = h .time })
-    (λ x. vcm (x .included)) (λ rs. record { carriers = []; modes = []; channels = rs; ranges = [] })
+    (λ x. vcm (x .included)) (λ rs. record { carriers = []; modes = []; channels = rs; ranges = [] }) (λ p. p .channels)
 form Dcm =
     channelTable 1 dcmHead
     (λ x h. record { map = x .map; first = h .first; count = h .count; included = 0; splice = 0; time = 0 })
-    (λ x. dcm) (λ rs. record { carriers = []; modes = []; channels = []; ranges = rs })
+    (λ x. dcm) (λ rs. record { carriers = []; modes = []; channels = []; ranges = rs }) (λ p. p .ranges)
 
 -- all of them, "in the order CDS, MMS, VCM, DCM"
 abbrev pub tables : List Table

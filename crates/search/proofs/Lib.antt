@@ -1,3 +1,4 @@
+pub mod Walked
 pub mod Bridge
 pub mod Laws
 pub mod Determined

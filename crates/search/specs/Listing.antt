@@ -27,12 +27,12 @@ testOf Dcm = isRange
 -- the numbers that the record at the front of the bytes goes by, and how many indices it takes
 unfoldable pub spanOf : Table → (index : ℕ) → List ℕ → Span
 spanOf Cds index bs =
-    let c = carriersOf (take (cds .size) bs) in
+    let c = carriersOf (take (cds .block .size) bs) in
     record { first = index; count = c .count; takes = c .count }
 spanOf Mms index bs = record { first = index; count = 1; takes = 1 }
-spanOf Vcm index bs = record { first = channelOf (take (vcm 0 .size) bs) .number; count = 1; takes = 0 }
+spanOf Vcm index bs = record { first = channelOf (take (vcm 0 .block .size) bs) .number; count = 1; takes = 0 }
 spanOf Dcm index bs =
-    let r = rangeOf (take (dcm .size) bs) in
+    let r = rangeOf (take (dcm .block .size) bs) in
     record { first = index; count = r .count; takes = r .count }
 
 -- the record that an entry names: none by 0, else by one less a place in the store (low 32 bits) and the record's index
@@ -40,7 +40,7 @@ unfoldable pub named : (t : Table) → (store : List ℕ) → (entry : ℕ) → 
 named t store zero = none
 named t store (suc n) =
     let bs = from store (n % 2 ^ 32) in
-    some (record { index = n / 2 ^ 32; what = layoutOf t 0 .look (take (extent (layoutOf t 0) bs) bs) })
+    some (record { index = n / 2 ^ 32; what = layoutOf t 0 .block .look (take (extent (layoutOf t 0 .block) bs) bs) })
 
 -- each entry names the first live record that goes by its number
 pub record Lists (s : State) (store : List ℕ) (t : Table) (entries : List ℕ) : Type 0 where

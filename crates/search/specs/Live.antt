@@ -6,18 +6,17 @@ use mathlib.Core.Bool.{true}
 use mathlib.Core.List.{List}
 use mathlib.Core.Option.{Option, none, some}
 use lib.ListN.{take}
-use Rattle.rules.specs.Bytes.{byte, from}
-use Rattle.rules.specs.Layout.{Layout, Numbered}
-use Rattle.rules.specs.Tables.{carrierKhz, cds, mms, vcmHeadOf, vcmHead, vcm, dcmHeadOf, dcmHead, dcm}
-use Rattle.rules.specs.Section.{Structure, recordsAt}
+use Rattle.rules.specs.Bytes.{from}
+use Rattle.rules.specs.Layout.{extent, Layout, Numbered}
+use Rattle.rules.specs.Tables.{carrierKhz}
+use Rattle.rules.specs.Form.{Front, form}
+use Rattle.rules.specs.Section.{headerOf, Structure, recordsAt}
 use Rattle.rules.specs.Holding.{four, holdingOf}
-use Rattle.rules.specs.Tuning.{carriersIn, modesIn, channelsIn, rangesIn, tableReads}
+use Rattle.rules.specs.Tuning.{tableReads}
 use Rattle.rules.specs.declared.Table.{Table}
-use Rattle.rules.specs.declared.Table.the-variants.{Cds, Mms, Vcm, Dcm}
 use Rattle.rules.specs.declared.Carriers.{Carriers}
 use Rattle.rules.specs.declared.Mode.{Mode}
 use Rattle.rules.specs.declared.Channel.{Channel}
-use Rattle.rules.specs.declared.Range.{Range}
 use Rattle.rules.specs.declared.State.{State}
 use Rattle.search.specs.declared.Walk.{Walk}
 use Rattle.search.specs.declared.CarrierFound.{CarrierFound}
@@ -35,32 +34,27 @@ pub record Live (s : State) (store : List ℕ) (t : Table) : Type 0 where
 -- ---- the records of a table, their layout, and where they stand in a section without its CRC
 
 abbrev pub RecordOf : Table → Type 0
-RecordOf Cds = Carriers
-RecordOf Mms = Mode
-RecordOf Vcm = Channel
-RecordOf Dcm = Range
+RecordOf t = form t .Row
 
+-- of what stands in front of the records their layout goes by descriptors-included alone
 abbrev pub layoutOf : (t : Table) → (included : ℕ) → Layout (RecordOf t)
-layoutOf Cds included = cds
-layoutOf Mms included = mms
-layoutOf Vcm included = vcm included
-layoutOf Dcm included = dcm
+layoutOf t included =
+    form t .layout (record { map = 0; first = 0; count = 0; included = included; splice = 0; time = 0 })
 
 abbrev pub recordsOf : (t : Table) → Structure → List (Numbered (RecordOf t))
-recordsOf Cds = carriersIn
-recordsOf Mms = modesIn
-recordsOf Vcm = channelsIn
-recordsOf Dcm = rangesIn
+recordsOf t x = form t .listed (x .lists)
+
+-- what stands in front of the records of a section that reads right
+unfoldable pub frontAt : Table → List ℕ → Front
+frontAt t b =
+    let rest = from b (extent (headerOf (form t)) b) in
+    form t .joined (headerOf (form t) .look (take (extent (headerOf (form t)) b) b))
+    (form t .head .look (take (extent (form t .head) rest) rest))
 
 unfoldable pub walkOf : Table → List ℕ → Walk
-walkOf Cds b = record { at = recordsAt Cds; index = byte 4 b; count = byte 5 b; included = 1 }
-walkOf Mms b = record { at = recordsAt Mms; index = byte 4 b; count = byte 5 b; included = 1 }
-walkOf Vcm b =
-    let h = vcmHeadOf (take (vcmHead .size) (from b 7)) in
-    record { at = recordsAt Vcm; index = 0; count = h .count; included = h .included }
-walkOf Dcm b =
-    let h = dcmHeadOf (take (dcmHead .size) (from b 7)) in
-    record { at = recordsAt Dcm; index = h .first; count = h .length; included = 0 }
+walkOf t b =
+    let y = frontAt t b in
+    record { at = recordsAt t b; index = y .first; count = y .count; included = y .included }
 
 -- ---- the answers
 

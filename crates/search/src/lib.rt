@@ -41,7 +41,7 @@ fn counted_walk(b: &[u8]) -> Walk
         at: HEADER,
         index: fields::byte(b, 4) as u16,
         count: fields::byte(b, 5),
-        included: 1,
+        included: 0,
     }
 }
 
@@ -65,7 +65,7 @@ fn walk_of(t: Table, b: &[u8]) -> Walk
             Walk {
                 at: HEADER + dcm::HEAD,
                 index: h.first,
-                count: h.length,
+                count: h.count,
                 included: 0,
             }
         }

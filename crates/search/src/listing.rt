@@ -66,8 +66,8 @@ fn span_of(t: Table, b: &[u8], at: usize, index: u32) -> Span
 
 // Over the record at a place, which is there whole, and its descriptors.
 fn past_record(t: Table, b: &[u8], at: usize, included: u8) -> Skip
-    requires { ⌜ extent (layoutOf t included) (from (now b) at) ≤ length (now b) - at ⌝ }
-    ensures { λ r. ⌜ Stands (now (b .entry)) r (counted (layoutOf t included .described) (from (now (b .entry)) (at + extent (layoutOf t included) (from (now (b .entry)) at)))) ⌝ }
+    requires { ⌜ extent (layoutOf t included .block) (from (now b) at) ≤ length (now b) - at ⌝ }
+    ensures { λ r. ⌜ Stands (now (b .entry)) r (counted (layoutOf t included .described) (from (now (b .entry)) (at + extent (layoutOf t included .block) (from (now (b .entry)) at)))) ⌝ }
 {
     match t {
         Table::Cds => fields::past_counted(b, at + cds::SIZE, true),

@@ -15,7 +15,7 @@ use borrow.Author.Tests.{eq-eqb, ne-eqb}
 use Rattle.rules.specs.Tables.{vcm}
 use Rattle.rules.specs.Tuning.{isChannel, channelsIn, liveCount, liveSection, liveRecords}
 use Rattle.rules.specs.declared.Table.the-variants.{Vcm}
-use Rattle.search.specs.Live.{walkOf, channelFound}
+use Rattle.search.specs.Live.{frontAt, walkOf, channelFound}
 use Rattle.search.specs.declared.Walk.{Walk}
 use Rattle.search.proofs.find_channel.Statement.{statement}
 use Rattle.search.proofs.find_channel.Tie as tie
@@ -41,7 +41,7 @@ unfolding liveRecords
 loop-holds c = begin
 
 loop2-holds : tie.Need-loop2-holds Inv-loop2 μ-loop2 Inv-loop μ-loop
-unfolding liveCount walkOf
+unfolding liveCount walkOf frontAt
 loop2-holds c = let a = c .before .before .before .before .before .before .args in
     let zero : c .walk-of .result .index ≡ 0 = ap (λ (w : Walk). w .index) (c .walk-of .ensures) in
     rw sub-zero (rw zero at (enter-live (a .s) (now (a .store)) Vcm (c .before .before .before .before .before .before .pre) _ _ (c .before .live-bytes .ensures) (c .walk-of .ensures) (c .before .before .loop-test .taken) (c .before .before .before .loop .inv)))

@@ -1,8 +1,7 @@
 -- By the table: what the header says, or the head behind it.
-use Rattle.rules.specs.Section.{recordsAt}
-use Rattle.rules.specs.Tables.{vcmHead, dcmHead}
-use Rattle.search.specs.Live.{walkOf}
+use mathlib.Core.Path.{sym, _∙_}
 use borrow.Author.Needs.{needs}
+use Rattle.search.proofs.Walked.{same-walk, vcm-walk-is, dcm-walk-is}
 use Rattle.search.proofs.walk_of.Statement.{statement}
 use Rattle.search.proofs.walk_of.Tie as tie
 
@@ -10,16 +9,13 @@ returns : tie.Need-returns
 returns c = rw (c .before .enum-told .given .1) (c .counted-walk .ensures)
 
 returns-2 : tie.Need-returns-2
-unfolding walkOf recordsAt
-returns-2 c = rw (c .before .enum-told2 .given .1) (c .counted-walk2 .ensures)
+returns-2 c = rw (c .before .enum-told2 .given .1) (c .counted-walk2 .ensures ∙ sym (same-walk _))
 
 returns-3 : tie.Need-returns-3
-unfolding walkOf recordsAt vcmHead
-returns-3 c = rw (c .before .before .enum-told3 .given .1, c .head-of .ensures, c .before .part .ensures)
+returns-3 c = rw (c .before .before .enum-told3 .given .1) (vcm-walk-is _ (c .head-of .result) (cc))
 
 returns-4 : tie.Need-returns-4
-unfolding walkOf recordsAt dcmHead
-returns-4 c = rw (c .before .before .enum-told4 .given .1, c .head-of2 .ensures, c .before .part2 .ensures)
+returns-4 c = rw (c .before .before .enum-told4 .given .1) (dcm-walk-is _ (c .head-of2 .result) (cc))
 
 pub walk-of-spec : {M : Type 1} → statement M
 walk-of-spec =
