@@ -8,7 +8,9 @@ use lib.ListN.{length}
 use Rattle.rules.specs.Bytes.{byte}
 use Rattle.rules.specs.Descriptors.{Descriptor}
 use Rattle.rules.specs.Section.{Content, wrong, right}
-use Rattle.rules.specs.Growth.{GrownRevision, GrownClosing, empty, Piece, Parts, Shaped, FullerPieces, end, GrownParts, Grown}
+use Rattle.rules.specs.Form.{form}
+use Rattle.rules.specs.Parts.{Piece, Parts, Shaped}
+use Rattle.rules.specs.Growth.{empty, kept, added, GrownRevision, GrownClosing, FullerPieces, end, GrownParts, Grown}
 use Rattle.rules.specs.declared.Table.the-variants.{Cds, Vcm, Dcm}
 use Rattle.rules.proofs.Hex.{hex}
 use Rattle.rules.proofs.Truths.{differ, unlike, not-most}
@@ -26,19 +28,21 @@ pub record GrowthLimits : Type 0 where
   pub last : GrownRevision (d 0x93 "E5 01 03") (d 0x93 "E5 01 02") → ⊥
   -- ---- the parts of a section: four bytes of header and the head in front, records of their size, as many as the count says, lists only
   -- behind records that have them
-  pub front-short : Shaped Cds (parts 0xC2 0x30 (hex "00 01 01") record1) → ⊥
-  pub front-long : Shaped Cds (parts 0xC2 0x30 (hex "00 01 01 01 00") record1) → ⊥
-  pub head-short : Shaped Dcm (parts 0xC4 0x30 (hex "00 01 00 00 00 02") []) → ⊥
-  pub own-short : Shaped Cds (parts 0xC2 0x30 (hex "00 01 01 01") (p "02 80 30 81" [] ∷ [])) → ⊥
-  pub fewer : Shaped Cds (parts 0xC2 0x30 (hex "00 01 02 01") record1) → ⊥
-  pub no-list : Shaped Vcm (parts 0xC4 0x30 (hex "00 00 00 00 00 00 00 00 00 00 01") (channel1 (d 0x80 "" ∷ []))) → ⊥
+  pub header-short : Shaped (form Cds) (parts 0xC2 0x30 (hex "00 01 01") [] record1) → ⊥
+  pub header-long : Shaped (form Cds) (parts 0xC2 0x30 (hex "00 01 01 01 00") [] record1) → ⊥
+  pub head-none : Shaped (form Cds) (parts 0xC2 0x30 (hex "00 01 01 01") (0 ∷ []) record1) → ⊥
+  pub head-short : Shaped (form Dcm) (parts 0xC4 0x30 (hex "00 01 00 00") (hex "00 02") []) → ⊥
+  pub own-short : Shaped (form Cds) (parts 0xC2 0x30 (hex "00 01 01 01") [] (p "02 80 30 81" [] ∷ [])) → ⊥
+  pub fewer : Shaped (form Cds) (parts 0xC2 0x30 (hex "00 01 02 01") [] record1) → ⊥
+  pub no-list : Shaped (form Vcm) (parts 0xC4 0x30 (hex "00 00 00 00") (hex "00 00 00 00 00 00 01") (channel1 (d 0x80 "" ∷ []))) → ⊥
   -- ---- what stays: the table number, the zero bits of byte 1 and nothing else of it, what stands in front of the records
-  pub other-number : GrownParts (parts 0xC2 0x30 [] []) (parts 0xC4 0x30 [] []) → ⊥
-  pub zero-bit : GrownParts (parts 0xC2 0x00 [] []) (parts 0xC2 0x40 [] []) → ⊥
-  pub zero-bit-back : GrownParts (parts 0xC2 0x40 [] []) (parts 0xC2 0x00 [] []) → ⊥
-  pub other-front : GrownParts (parts 0xC2 0x30 (0 ∷ []) []) (parts 0xC2 0x30 (1 ∷ []) []) → ⊥
-  pub other-records : GrownParts (parts 0xC2 0x30 [] record1) (parts 0xC2 0x30 [] []) → ⊥
-  pub other-closing : GrownParts (parts 0xC2 0x30 [] []) (record { number = 0xC2; flags = 0x30; low = 0x10; front = []; pieces = []; closing = [] }) → ⊥
+  pub other-number : GrownParts (parts 0xC2 0x30 [] [] []) (parts 0xC4 0x30 [] [] []) → ⊥
+  pub zero-bit : GrownParts (parts 0xC2 0x00 [] [] []) (parts 0xC2 0x40 [] [] []) → ⊥
+  pub zero-bit-back : GrownParts (parts 0xC2 0x40 [] [] []) (parts 0xC2 0x00 [] [] []) → ⊥
+  pub other-header : GrownParts (parts 0xC2 0x30 (0 ∷ []) [] []) (parts 0xC2 0x30 (1 ∷ []) [] []) → ⊥
+  pub other-head : GrownParts (parts 0xC2 0x30 [] (0 ∷ []) []) (parts 0xC2 0x30 [] (1 ∷ []) []) → ⊥
+  pub other-records : GrownParts (parts 0xC2 0x30 [] [] record1) (parts 0xC2 0x30 [] [] []) → ⊥
+  pub other-closing : GrownParts (parts 0xC2 0x30 [] [] []) (record { number = 0xC2; flags = 0x30; low = 0x10; header = []; head = []; pieces = []; closing = [] }) → ⊥
   -- ---- the first section reads right; the grown one has a right L and a right CRC
   pub not-right : (g : List ℕ) → Grown (hex "C2 30") g → ⊥
   pub not-fitting : Grown carriersPlain (hex "C2 30") → ⊥
@@ -51,11 +55,9 @@ fuller-count (FullerPieces.next own list more) = ap suc (fuller-count more)
 
 -- and no descriptor of a closing list is taken away
 closing-count : {ds es : List Descriptor} → GrownClosing ds es → length ds ≤ length es
-closing-count GrownClosing.empty = omega arith
-closing-count (GrownClosing.stays d more) = let n = closing-count more in omega (arith, n)
-closing-count (GrownClosing.added d ne more) = let n = closing-count more in omega (arith, n)
-closing-count (GrownClosing.other ne e more) = let n = closing-count more in omega (arith, n)
-closing-count (GrownClosing.revised grown more) = let n = closing-count more in omega (arith, n)
+closing-count empty = omega arith
+closing-count (kept k more) = let n = closing-count more in omega (arith, n)
+closing-count (added d may more) = let n = closing-count more in omega (arith, n)
 
 wrong-right : {n : ℕ} {c : Content} → wrong n ≡ right c → ⊥
 wrong-right e = let z : _≡_ {A = ℕ} 0 1 = cc in omega arith
@@ -66,21 +68,23 @@ growth-limits =
     record {
       was = λ g. unlike refl (g .was);
       is = λ g. unlike refl (g .is);
-      long = λ g. not-most refl (g .long);
-      longer = λ g. not-most refl (g .longer);
-      version = λ g. unlike refl (g .version);
-      number = λ g. unlike refl (g .number);
-      last = λ g. unlike refl (g .last);
-      front-short = λ s. unlike refl (s .front);
-      front-long = λ s. unlike refl (s .front);
-      head-short = λ s. unlike refl (s .front);
+      long = λ g. not-most refl (g .same .long);
+      longer = λ g. not-most refl (g .same .longer);
+      version = λ g. unlike refl (g .same .version);
+      number = λ g. unlike refl (g .same .number);
+      last = λ g. unlike refl (g .same .last);
+      header-short = λ s. unlike refl (s .header);
+      header-long = λ s. unlike refl (s .header);
+      head-none = λ s. unlike refl (s .head);
+      head-short = λ s. unlike refl (s .head);
       own-short = λ s. unlike refl (s .sized .0);
       fewer = λ s. unlike refl (s .count);
       no-list = λ s. unlike refl (ap length (s .sized .1 refl));
       other-number = λ g. unlike refl (g .number);
       zero-bit = λ g. unlike refl (g .zeros);
       zero-bit-back = λ g. unlike refl (g .zeros);
-      other-front = λ g. unlike refl (ap (byte 0) (g .front));
+      other-header = λ g. unlike refl (ap (byte 0) (g .header));
+      other-head = λ g. unlike refl (ap (byte 0) (g .head));
       other-records = λ g. unlike refl (fuller-count (g .pieces));
       other-closing = λ g. not-most refl (closing-count (g .closing));
       not-right = λ s g. wrong-right (g .reads);

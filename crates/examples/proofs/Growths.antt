@@ -7,8 +7,10 @@ use native.Mathlib.Omega.{arith}
 use mathlib.Core.Path.{refl}
 use mathlib.Core.List.{List, [], _∷_}
 use Rattle.rules.specs.Descriptors.{Descriptor}
-use Rattle.rules.specs.Section.{Structure, modes, channels, ranges, Content}
-use Rattle.rules.specs.Growth.{FullerList, GrownRevision, GrownClosing, Shaped, GrownParts, empty, stays, added, other, revised, Piece, end, next, Grown, GrownRun, grown}
+use Rattle.rules.specs.Form.{form}
+use Rattle.rules.specs.Section.{Structure, Content}
+use Rattle.rules.specs.Parts.{Piece, Shaped}
+use Rattle.rules.specs.Growth.{empty, kept, added, GrownRevision, stays, other, revised, end, next, GrownParts, Grown, GrownRun, grown}
 use Rattle.rules.specs.Growth
 use Rattle.rules.specs.declared.Table.{Table}
 use Rattle.rules.specs.declared.Table.the-variants.{Mms, Vcm, Dcm}
@@ -16,18 +18,18 @@ use Rattle.rules.specs.declared.Signal.the-variants.{Digital}
 use Rattle.rules.proofs.Hex.{hex}
 use Rattle.rules.proofs.Computed.{computed}
 use Rattle.rules.proofs.Truths.{differ}
-use Rattle.rules.proofs.Examples.{c1Content, c7Ranges, c12Mode}
+use Rattle.rules.proofs.Examples.{modes, channels, ranges, c1Content, c7Ranges, c12Mode}
 use Rattle.examples.proofs.Plants.{examplePlant, d, p, carriersPlain, parts, channel1}
 
 -- what a section of version 5, 0 of 0, for map 0 reads as
 abbrev said : Table → Structure → List Descriptor → Content
 said t structure closing =
-    record { table = t; map = 0; structure = structure; closing = closing; revision = record { version = 5; number = 0; last = 0 } }
+    record { table = t; structure = structure; closing = closing; revision = record { version = 5; number = 0; last = 0 } }
 
 -- the record of C9, with or without lists behind the records
 abbrev c9Channels : (included : ℕ) → Structure
 c9Channels included =
-    channels (record { included = included; splice = 0; time = 0; count = 1 })
+    channels 0 included 0 0
     (record { index = 0; what = record { number = 3; application = 0; path = 0; kind = 0; source = 0x1234; carrier = 2; signal = Digital 3 1 } } ∷ [])
 
 abbrev carriersGrown : List ℕ
@@ -68,7 +70,8 @@ carriers-grow =
             number = 0xC2;
             flags = 0x30;
             low = 0x13;
-            front = hex "00 01 01 01";
+            header = hex "00 01 01 01";
+            head = [];
             pieces = p "02 80 30 81 C8" [] ∷ [];
             closing = d 0x93 "E5 00 00" ∷ [];
           };
@@ -77,23 +80,25 @@ carriers-grow =
             number = 0xC2;
             flags = 0x00;
             low = 0x20;
-            front = hex "00 01 01 01";
+            header = hex "00 01 01 01";
+            head = [];
             pieces = p "02 80 30 81 C8" (d 0x93 "" ∷ d 0x80 "AA" ∷ []) ∷ [];
             closing = d 0x81 "" ∷ d 0x93 "05 00 00 AA BB" ∷ d 0xC0 "01 02" ∷ [];
           };
       was = refl;
       is = refl;
-      shaped = record { front = refl; sized = (refl, λ e. absurd (differ e), tt); count = refl };
-      reshaped = record { front = refl; sized = (refl, λ e. absurd (differ e), tt); count = refl };
+      shaped = record { header = refl; head = refl; sized = (refl, λ e. absurd (differ e), tt); count = refl };
+      reshaped = record { header = refl; head = refl; sized = (refl, λ e. absurd (differ e), tt); count = refl };
       grows =
           record {
             number = refl;
             zeros = refl;
-            front = refl;
-            pieces = next refl (FullerList.added (d 0x93 "") (FullerList.added (d 0x80 "AA") FullerList.empty)) end;
+            header = refl;
+            head = refl;
+            pieces = next refl (added (d 0x93 "") tt (added (d 0x80 "AA") tt empty)) end;
             closing =
                 added (d 0x81 "") (λ e. omega (arith, e))
-                (revised {d = d 0x93 "E5 00 00"} {e = d 0x93 "05 00 00 AA BB"} (record { was = refl; is = refl; long = omega arith; longer = omega arith; version = refl; number = refl; last = refl })
+                (kept {d = d 0x93 "E5 00 00"} {e = d 0x93 "05 00 00 AA BB"} (revised (record { was = refl; is = refl; same = record { long = omega arith; longer = omega arith; version = refl; number = refl; last = refl } }))
                 (added (d 0xC0 "01 02") (λ e. omega (arith, e)) empty));
           };
       fits = refl;
@@ -111,7 +116,8 @@ modes-grow =
             number = 0xC2;
             flags = 0x30;
             low = 0x14;
-            front = hex "00 01 01 02";
+            header = hex "00 01 01 02";
+            head = [];
             pieces = p "2F 08 00 4D 29 AD" [] ∷ [];
             closing = d 0x93 "E5 00 00" ∷ [];
           };
@@ -120,22 +126,24 @@ modes-grow =
             number = 0xC2;
             flags = 0x10;
             low = 0x1D;
-            front = hex "00 01 01 02";
+            header = hex "00 01 01 02";
+            head = [];
             pieces = p "2F 08 00 4D 29 AD" (d 0x80 "AA BB CC" ∷ []) ∷ [];
             closing = d 0x93 "45 00 00 77" ∷ d 0x81 "01" ∷ [];
           };
       was = refl;
       is = refl;
-      shaped = record { front = refl; sized = (refl, λ e. absurd (differ e), tt); count = refl };
-      reshaped = record { front = refl; sized = (refl, λ e. absurd (differ e), tt); count = refl };
+      shaped = record { header = refl; head = refl; sized = (refl, λ e. absurd (differ e), tt); count = refl };
+      reshaped = record { header = refl; head = refl; sized = (refl, λ e. absurd (differ e), tt); count = refl };
       grows =
           record {
             number = refl;
             zeros = refl;
-            front = refl;
-            pieces = next refl (FullerList.added (d 0x80 "AA BB CC") FullerList.empty) end;
+            header = refl;
+            head = refl;
+            pieces = next refl (added (d 0x80 "AA BB CC") tt empty) end;
             closing =
-                revised {d = d 0x93 "E5 00 00"} {e = d 0x93 "45 00 00 77"} (record { was = refl; is = refl; long = omega arith; longer = omega arith; version = refl; number = refl; last = refl })
+                kept {d = d 0x93 "E5 00 00"} {e = d 0x93 "45 00 00 77"} (revised (record { was = refl; is = refl; same = record { long = omega arith; longer = omega arith; version = refl; number = refl; last = refl } }))
                 (added (d 0x81 "01") (λ e. omega (arith, e)) empty);
           };
       fits = refl;
@@ -146,14 +154,15 @@ pub ranges-grow : Grown rangesPlain rangesGrown
 unfolding computed
 ranges-grow =
     record {
-      content = said Dcm (ranges (record { first = 2; length = 3 }) c7Ranges) (d 0x93 "E5 00 00" ∷ []);
+      content = said Dcm (ranges 0 2 c7Ranges) (d 0x93 "E5 00 00" ∷ []);
       reads = refl;
       before =
           record {
             number = 0xC4;
             flags = 0x30;
             low = 0x13;
-            front = hex "00 01 00 00 00 02 03";
+            header = hex "00 01 00 00";
+            head = hex "00 02 03";
             pieces = p "83" [] ∷ p "05" [] ∷ p "81" [] ∷ [];
             closing = d 0x93 "E5 00 00" ∷ [];
           };
@@ -162,23 +171,25 @@ ranges-grow =
             number = 0xC4;
             flags = 0x20;
             low = 0x17;
-            front = hex "00 01 00 00 00 02 03";
+            header = hex "00 01 00 00";
+            head = hex "00 02 03";
             pieces = p "83" [] ∷ p "05" [] ∷ p "81" [] ∷ [];
             closing = d 0x80 "AA" ∷ d 0x93 "65 00 00 01" ∷ [];
           };
       was = refl;
       is = refl;
-      shaped = record { front = refl; sized = (refl, λ e. refl, (refl, λ e. refl, (refl, λ e. refl, tt))); count = refl };
-      reshaped = record { front = refl; sized = (refl, λ e. refl, (refl, λ e. refl, (refl, λ e. refl, tt))); count = refl };
+      shaped = record { header = refl; head = refl; sized = (refl, λ e. refl, (refl, λ e. refl, (refl, λ e. refl, tt))); count = refl };
+      reshaped = record { header = refl; head = refl; sized = (refl, λ e. refl, (refl, λ e. refl, (refl, λ e. refl, tt))); count = refl };
       grows =
           record {
             number = refl;
             zeros = refl;
-            front = refl;
-            pieces = next refl FullerList.empty (next refl FullerList.empty (next refl FullerList.empty end));
+            header = refl;
+            head = refl;
+            pieces = next refl empty (next refl empty (next refl empty end));
             closing =
                 added (d 0x80 "AA") (λ e. omega (arith, e))
-                (revised {d = d 0x93 "E5 00 00"} {e = d 0x93 "65 00 00 01"} (record { was = refl; is = refl; long = omega arith; longer = omega arith; version = refl; number = refl; last = refl }) empty);
+                (kept {d = d 0x93 "E5 00 00"} {e = d 0x93 "65 00 00 01"} (revised (record { was = refl; is = refl; same = record { long = omega arith; longer = omega arith; version = refl; number = refl; last = refl } })) empty);
           };
       fits = refl;
       crc = refl;
@@ -195,7 +206,8 @@ channels-grow =
             number = 0xC4;
             flags = 0x30;
             low = 0x1D;
-            front = hex "00 00 00 00 00 00 00 00 00 00 01";
+            header = hex "00 00 00 00";
+            head = hex "00 00 00 00 00 00 01";
             pieces = p "00 03 00 12 34 02 00 03 01" [] ∷ [];
             closing = d 0x93 "E5 00 00" ∷ [];
           };
@@ -204,24 +216,26 @@ channels-grow =
             number = 0xC4;
             flags = 0x00;
             low = 0x23;
-            front = hex "00 00 00 00 00 00 00 00 00 00 01";
+            header = hex "00 00 00 00";
+            head = hex "00 00 00 00 00 00 01";
             pieces = p "00 03 00 12 34 02 00 03 01" [] ∷ [];
             closing = d 0x80 "" ∷ d 0x80 "AA" ∷ d 0x93 "25 00 00 FF" ∷ [];
           };
       was = refl;
       is = refl;
-      shaped = record { front = refl; sized = (refl, λ e. refl, tt); count = refl };
-      reshaped = record { front = refl; sized = (refl, λ e. refl, tt); count = refl };
+      shaped = record { header = refl; head = refl; sized = (refl, λ e. refl, tt); count = refl };
+      reshaped = record { header = refl; head = refl; sized = (refl, λ e. refl, tt); count = refl };
       grows =
           record {
             number = refl;
             zeros = refl;
-            front = refl;
-            pieces = next refl FullerList.empty end;
+            header = refl;
+            head = refl;
+            pieces = next refl empty end;
             closing =
                 added (d 0x80 "") (λ e. omega (arith, e))
                 (added (d 0x80 "AA") (λ e. omega (arith, e))
-                (revised {d = d 0x93 "E5 00 00"} {e = d 0x93 "25 00 00 FF"} (record { was = refl; is = refl; long = omega arith; longer = omega arith; version = refl; number = refl; last = refl }) empty));
+                (kept {d = d 0x93 "E5 00 00"} {e = d 0x93 "25 00 00 FF"} (revised (record { was = refl; is = refl; same = record { long = omega arith; longer = omega arith; version = refl; number = refl; last = refl } })) empty));
           };
       fits = refl;
       crc = refl;
@@ -238,7 +252,8 @@ included-grow =
             number = 0xC4;
             flags = 0x30;
             low = 0x27;
-            front = hex "00 00 00 00 20 00 00 00 00 00 01";
+            header = hex "00 00 00 00";
+            head = hex "20 00 00 00 00 00 01";
             pieces = p "00 03 00 12 34 02 00 03 01" (d 0x94 "FC 03 FC 01" ∷ []) ∷ [];
             closing = d 0x81 "01" ∷ d 0x93 "E5 00 00" ∷ [];
           };
@@ -247,24 +262,26 @@ included-grow =
             number = 0xC4;
             flags = 0x00;
             low = 0x32;
-            front = hex "00 00 00 00 20 00 00 00 00 00 01";
+            header = hex "00 00 00 00";
+            head = hex "20 00 00 00 00 00 01";
             pieces = p "00 03 00 12 34 02 00 03 01" (d 0x82 "" ∷ d 0x94 "00 03 00 01" ∷ d 0x93 "00 00" ∷ []) ∷ [];
             closing = d 0x81 "FF 01" ∷ d 0x82 "" ∷ d 0x93 "05 00 00 01 02" ∷ [];
           };
       was = refl;
       is = refl;
-      shaped = record { front = refl; sized = (refl, λ e. absurd (differ e), tt); count = refl };
-      reshaped = record { front = refl; sized = (refl, λ e. absurd (differ e), tt); count = refl };
+      shaped = record { header = refl; head = refl; sized = (refl, λ e. absurd (differ e), tt); count = refl };
+      reshaped = record { header = refl; head = refl; sized = (refl, λ e. absurd (differ e), tt); count = refl };
       grows =
           record {
             number = refl;
             zeros = refl;
-            front = refl;
-            pieces = next refl (FullerList.added (d 0x82 "") (FullerList.stays refl (FullerList.added (d 0x93 "00 00") FullerList.empty))) end;
+            header = refl;
+            head = refl;
+            pieces = next refl (added (d 0x82 "") tt (kept refl (added (d 0x93 "00 00") tt empty))) end;
             closing =
-                other {d = d 0x81 "01"} (λ e. omega (arith, e)) refl
+                kept {d = d 0x81 "01"} {e = d 0x81 "FF 01"} (other (λ e. omega (arith, e)) refl)
                 (added (d 0x82 "") (λ e. omega (arith, e))
-                (revised {d = d 0x93 "E5 00 00"} {e = d 0x93 "05 00 00 01 02"} (record { was = refl; is = refl; long = omega arith; longer = omega arith; version = refl; number = refl; last = refl }) empty));
+                (kept {d = d 0x93 "E5 00 00"} {e = d 0x93 "05 00 00 01 02"} (revised (record { was = refl; is = refl; same = record { long = omega arith; longer = omega arith; version = refl; number = refl; last = refl } })) empty));
           };
       fits = refl;
       crc = refl;
@@ -275,28 +292,28 @@ included-grow =
 -- four high bits of L, set and cleared
 pub revision-grows : GrownRevision (d 0x93 "E5 01 03") (d 0x93 "05 01 03 AA")
 unfolding computed
-revision-grows = record { was = refl; is = refl; long = omega arith; longer = omega arith; version = refl; number = refl; last = refl }
+revision-grows = record { was = refl; is = refl; same = record { long = omega arith; longer = omega arith; version = refl; number = refl; last = refl } }
 
 -- a revision descriptor that gets no byte more; a record whose first index is not the count
 pub revision-stays : GrownRevision (d 0x93 "E5 01 03") (d 0x93 "05 01 03")
 unfolding computed
-revision-stays = record { was = refl; is = refl; long = omega arith; longer = omega arith; version = refl; number = refl; last = refl }
+revision-stays = record { was = refl; is = refl; same = record { long = omega arith; longer = omega arith; version = refl; number = refl; last = refl } }
 
-pub mode-shaped : Shaped Mms (parts 0xC2 0x30 (hex "00 07 01 02") (p "2F 08 00 4D 29 AD" [] ∷ []))
+pub mode-shaped : Shaped (form Mms) (parts 0xC2 0x30 (hex "00 07 01 02") [] (p "2F 08 00 4D 29 AD" [] ∷ []))
 unfolding computed
-mode-shaped = record { front = refl; sized = (refl, λ e. absurd (differ e), tt); count = refl }
+mode-shaped = record { header = refl; head = refl; sized = (refl, λ e. absurd (differ e), tt); count = refl }
 
-pub included-shaped : Shaped Vcm (parts 0xC4 0x30 (hex "00 00 00 00 20 00 00 00 00 00 01") (channel1 (d 0x80 "" ∷ [])))
+pub included-shaped : Shaped (form Vcm) (parts 0xC4 0x30 (hex "00 00 00 00") (hex "20 00 00 00 00 00 01") (channel1 (d 0x80 "" ∷ [])))
 unfolding computed
-included-shaped = record { front = refl; sized = (refl, λ e. absurd (differ e), tt); count = refl }
+included-shaped = record { header = refl; head = refl; sized = (refl, λ e. absurd (differ e), tt); count = refl }
 
-pub reserved-set : GrownParts (parts 0xC2 0x00 [] []) (parts 0xC2 0x3F [] [])
+pub reserved-set : GrownParts (parts 0xC2 0x00 [] [] []) (parts 0xC2 0x3F [] [] [])
 unfolding computed
-reserved-set = record { number = refl; zeros = refl; front = refl; pieces = end; closing = GrownClosing.stays _ empty }
+reserved-set = record { number = refl; zeros = refl; header = refl; head = refl; pieces = end; closing = kept (stays refl) empty }
 
-pub reserved-cleared : GrownParts (parts 0xC2 0x3F [] []) (parts 0xC2 0x00 [] [])
+pub reserved-cleared : GrownParts (parts 0xC2 0x3F [] [] []) (parts 0xC2 0x00 [] [] [])
 unfolding computed
-reserved-cleared = record { number = refl; zeros = refl; front = refl; pieces = end; closing = GrownClosing.stays _ empty }
+reserved-cleared = record { number = refl; zeros = refl; header = refl; head = refl; pieces = end; closing = kept (stays refl) empty }
 
 abbrev pub grownPlant : List (List ℕ)
 grownPlant = carriersGrown ∷ modesGrown ∷ rangesGrown ∷ channelsGrown ∷ []

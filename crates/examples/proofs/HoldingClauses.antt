@@ -3,7 +3,7 @@ use Prim.Native.Nat.{ℕ, _*_}
 use mathlib.Core.Path.{_≡_, refl}
 use mathlib.Core.List.{List, [], _∷_, _++_, map}
 use lib.ListN.{length, replicate}
-use Rattle.rules.specs.Section.{carriers, Content, right, wrong}
+use Rattle.rules.specs.Section.{Content, right, wrong}
 use Rattle.rules.specs.Holding.{placeOf, storeSize, sectionAt, put, holdingOf, with, liveAt, gatheredAt, noneLive, noneGathered, freshHolding, fresh, holds, allOf, liveFormed, gatheredFormed, sameVersion, holdingFormed, stepOf, offeredAs, offered, takesIn, storeAfter, answerTo, boxAfter}
 use Rattle.rules.specs.declared.Table.{Table}
 use Rattle.rules.specs.declared.Table.the-variants.{Cds, Mms, Vcm, Dcm}
@@ -14,6 +14,7 @@ use Rattle.rules.specs.declared.Revision.{Revision}
 use Rattle.rules.specs.declared.State.{State}
 use Rattle.rules.specs.declared.Answer.the-variants.{Refused, OtherMap, Repeat, Stored, Live}
 use Rattle.rules.proofs.Hex.{hex}
+use Rattle.rules.proofs.Examples.{ranges}
 use Rattle.examples.proofs.Sweeps.{swept, answered, sweep, counting, asNumber}
 use Rattle.rules.proofs.Computed.{computed}
 
@@ -77,7 +78,7 @@ placesOf t =
 
 -- a section that reads right, for those who look at its table, map and revision alone
 abbrev pub said : Table → (map : ℕ) → Revision → Content
-said t map r = record { table = t; map = map; structure = carriers 1 []; closing = []; revision = r }
+said t map r = record { table = t; structure = ranges map 1 []; closing = []; revision = r }
 
 -- a CDS section, 2 of 0 to 3 of version 5; a VCM with splice 1 and the latest activation time, 0 of 0 of version 5, for map 0x0102
 abbrev pub carriersTwo : List ℕ

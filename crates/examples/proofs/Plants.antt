@@ -3,7 +3,7 @@ use Prim.Native.Nat.{ℕ}
 use Prim.Native.String.{String}
 use mathlib.Core.List.{List, [], _∷_}
 use Rattle.rules.specs.Descriptors.{Descriptor}
-use Rattle.rules.specs.Growth.{Piece, Parts}
+use Rattle.rules.specs.Parts.{Piece, Parts}
 use Rattle.rules.proofs.Hex.{hex}
 
 -- C1, C12 at mode index 1, C7 and C9, first index 1
@@ -52,10 +52,18 @@ p own list = record { own = hex own; list = list }
 abbrev pub carriersPlain : List ℕ
 carriersPlain = hex "C2 30 13 00 01 01 01 02 80 30 81 C8 00 93 03 E5 00 00 74 9E FB E2"
 
--- parts of a section: byte 1, what stands in front of the records, the records
-abbrev pub parts : (number flags : ℕ) → (front : List ℕ) → List Piece → Parts
-parts number flags front pieces =
-    record { number = number; flags = flags; low = 0x10; front = front; pieces = pieces; closing = d 0x93 "E5 00 00" ∷ [] }
+-- parts of a section: bytes 0 and 1, the rest of the header, the head, the records
+abbrev pub parts : (number flags : ℕ) → (header head : List ℕ) → List Piece → Parts
+parts number flags header head pieces =
+    record {
+      number = number;
+      flags = flags;
+      low = 0x10;
+      header = header;
+      head = head;
+      pieces = pieces;
+      closing = d 0x93 "E5 00 00" ∷ [];
+    }
 
 abbrev pub record1 : List Piece
 record1 = p "02 80 30 81 C8" [] ∷ []

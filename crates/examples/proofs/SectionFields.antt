@@ -7,7 +7,7 @@ use Rattle.rules.specs.Crc.{bitsOf, crcOf}
 use Rattle.rules.specs.Descriptors.{Descriptor}
 use Rattle.rules.specs.Layout.{Numbered}
 use Rattle.rules.specs.Tables.{carriersZeros, carriersOf, carrierKhz, modeZeros, modeOf, vcmHeadZeros, vcmHeadOf, transportOf, channelZeros, channelOf, dcmHeadZeros, dcmHeadOf, rangeOf}
-use Rattle.rules.specs.Section.{Structure, carriers, modes, channels, ranges, Reading, wrong, right, content, withoutCrc, read, readAs, askedOf, partOf}
+use Rattle.rules.specs.Section.{Structure, Reading, wrong, right, content, withoutCrc, read, readAs, askedOf, partOf}
 use Rattle.rules.specs.declared.Table.{Table}
 use Rattle.rules.specs.declared.Table.the-variants.{Cds, Mms, Vcm, Dcm}
 use Rattle.rules.specs.declared.Carriers.{Carriers}
@@ -20,6 +20,7 @@ use Rattle.rules.specs.Lineup.{text}
 use Rattle.rules.specs.declared.Read.the-variants as Read
 use Rattle.rules.specs.declared.Asked.the-variants as Asked
 use Rattle.rules.proofs.Hex.{hex}
+use Rattle.rules.proofs.Examples.{carriers, modes, channels, ranges}
 use Rattle.examples.proofs.Plants.{plantCds, plantMms, plantVcm, plantDcm}
 use Rattle.examples.proofs.Sweeps.{swept, sweep, answered, asNumber, halves, holding}
 use Rattle.rules.proofs.Computed.{computed}
@@ -66,31 +67,29 @@ abbrev pub askedSection : List ℕ
 askedSection = hex "C2 30 17 00 01 00 01 80 02 AA BB 93 04 E5 00 00 FF 81 00 80 01 CC 7A C6 10 76"
 
 -- a section of version 5, 0 of 0, with nothing else in its closing list
-abbrev saidAs : Table → (map : ℕ) → Structure → Reading
-saidAs t map structure =
-    right (record { table = t; map = map; structure = structure; closing = closing5; revision = revision5 })
+abbrev saidAs : Table → Structure → Reading
+saidAs t structure = right (record { table = t; structure = structure; closing = closing5; revision = revision5 })
 
 pub record SectionFields : Type 0 where
   -- ---- what a section reads as: a plant with another value in every field, units mixed both ways
   pub reads-carriers :
       behind plantCds
-      ≡ saidAs Cds 0 (carriers 3 plantCarriers)
+      ≡ saidAs Cds (carriers 3 plantCarriers)
   pub reads-modes :
       behind plantMms
-      ≡ saidAs Mms 0 (modes 7 plantModes)
+      ≡ saidAs Mms (modes 7 plantModes)
   pub reads-channels :
       behind plantVcm
-      ≡ saidAs Vcm 0x0102 (channels (record { included = 1; splice = 1; time = 0x12345678; count = 3 }) plantChannels)
+      ≡ saidAs Vcm (channels 0x0102 1 1 0x12345678 plantChannels)
   pub reads-ranges :
       behind plantDcm
-      ≡ saidAs Dcm 0x0102 (ranges (record { first = 0x122; length = 3 }) plantRanges)
+      ≡ saidAs Dcm (ranges 0x0102 0x122 plantRanges)
   -- the version is the five low bits, number and last all bits of their bytes; three bytes more are passed over
   pub reads-revision :
       read (content (hex "C2 30 00 00 01 00 01 80 00 93 06 DF FE FF 01 02 03"))
       ≡ right
       (record {
         table = Cds;
-        map = 0;
         structure = carriers 1 [];
         closing = record { tag = 0x80; body = [] } ∷ record { tag = 0x93; body = hex "DF FE FF 01 02 03" } ∷ [];
         revision = record { version = 31; number = 254; last = 255 };
@@ -101,7 +100,7 @@ pub record SectionFields : Type 0 where
       ≡ record { count = 255; spacing = record { unit = 1; number = 16383 }; first = record { unit = 1; number = 32767 } }
   pub ones-mode : modeOf (hex "FF FF FF FF FF FF") ≡ record { system = 15; inner = 15; split = 1; format = 31; symbols = 268435455 }
   pub ones-vcm : vcmHeadOf (hex "FF FF FF FF FF FF FF") ≡ record { included = 1; splice = 1; time = 4294967295; count = 255 }
-  pub ones-dcm : dcmHeadOf (hex "FF FF FF") ≡ record { first = 4095; length = 127 }
+  pub ones-dcm : dcmHeadOf (hex "FF FF FF") ≡ record { first = 4095; count = 127 }
   pub ones-channel :
       channelOf (hex "FF FF FF FF FF FF FF FF FF")
       ≡ record { number = 4095; application = 1; path = 1; kind = 15; source = 65535; carrier = 255; signal = Analogue 1 15 }
