@@ -52,8 +52,8 @@ pub record PrintClauses : Type 0 where
   pub texts : text "aZ=\n" ≡ 97 ∷ 90 ∷ 61 ∷ 10 ∷ []
   pub decimals : map decimal (0 ∷ 9 ∷ 10 ∷ 105 ∷ 1002000 ∷ []) ≡ text "0" ∷ text "9" ∷ text "10" ∷ text "105" ∷ text "1002000" ∷ []
   pub most :
-      map decimal (18446744073709551615 ∷ 99999999999999999999 ∷ [])
-      ≡ text "18446744073709551615" ∷ text "99999999999999999999" ∷ []
+      map decimal (18446744073709551615 ∷ 99999999999999999999 ∷ 100000000000000000000 ∷ 7234567890123456789012 ∷ [])
+      ≡ text "18446744073709551615" ∷ text "99999999999999999999" ∷ text "100000000000000000000" ∷ text "7234567890123456789012" ∷ []
   pub fields : field "key=" 12 ≡ text "key=12"
   pub lines : line "key=" (text "value") ≡ text "key=value\n"
   -- ---- the input: each section takes 3 + L bytes; an unfinished last one is offered as it is

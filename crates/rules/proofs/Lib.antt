@@ -53,5 +53,6 @@ pub mod GrownAsking  -- the descriptor question under growth
 pub mod Encoded  -- descriptors and records as bytes
 -- ---- the input of the line-up, and what a promise decides
 pub mod Pieces  -- an input read in pieces
+pub mod Decimal  -- a printed number is its number
 pub mod Told  -- an answer in the paper's terms
 pub mod Determined  -- two outcomes that a promise allows are equal

@@ -1,6 +1,6 @@
 -- Document 01, "The C side and the printed line-up": what the program `lineup` prints, byte for byte, of the bytes that it
 -- reads.
-use Prim.Native.Nat.{ℕ, zero, suc, _+_, _/_, _%_}
+use Prim.Native.Nat.{ℕ, zero, suc, _+_, _/_, _%_, _^_}
 use Prim.Native.Char.{code}
 use Prim.Native.String.{String, [] as []ₜ, _∷_ as _∷ₜ_}
 use mathlib.Core.Bool.{cond}
@@ -30,9 +30,9 @@ unfoldable pub digits : (most n : ℕ) → List ℕ
 digits zero n = (48 + n % 10) ∷ []
 digits (suc most) n = cond (ltb n 10) ((48 + n) ∷ []) (digits most (n / 10) ++ ((48 + n % 10) ∷ []))
 
--- "all numbers decimal"; every number of 64 bits has at most 20 digits
+-- "all numbers decimal", however large: 20 digits, and one more for each 10^20 in it, are never too few
 unfoldable pub decimal : ℕ → List ℕ
-decimal n = digits 19 n
+decimal n = digits (19 + n / 10 ^ 20) n
 
 -- a key with its number, and a line of a key and its value
 unfoldable pub field : String → ℕ → List ℕ

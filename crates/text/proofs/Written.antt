@@ -66,9 +66,14 @@ put-one out at b h =
 
 -- ---- decimal numbers
 
+-- every number of 64 bits has at most 20 digits
+decimal-low : (n : ℕ) → n < 2 ^ 64 → decimal n ≡ digits 19 n
+unfolding decimal
+decimal-low n h = let none : 19 + n / 10 ^ 20 ≡ 19 = omega arith in rw none
+
 pub decimal-digit : (n : ℕ) → n < 10 → decimal n ≡ (48 + n) ∷ []
-unfolding decimal digits
-decimal-digit n h = simp (lt-ltb n 10 h)
+unfolding digits
+decimal-digit n h = decimal-low n (omega arith) ∙ simp (lt-ltb n 10 h)
 
 -- more digits than are wanted change nothing
 more : (most n : ℕ) → n < 10 ^ suc most → digits most n ≡ digits (suc most) n
@@ -80,10 +85,10 @@ more (suc most) n h =
 
 -- what stands before the last digit
 pub decimal-step : (n : ℕ) → 10 ≤ n → n < 2 ^ 64 → decimal n ≡ decimal (n / 10) ++ ((48 + n % 10) ∷ [])
-unfolding decimal digits
+unfolding digits
 decimal-step n h b =
-    simp (le-ltb n 10 h)
-    (ap (λ (l : List ℕ). l ++ ((48 + n % 10) ∷ [])) (more 18 (n / 10) (div-lt-iff-lt-mul {k = 10} {x = n} {y = 10 ^ 19} (lit< tt) .1 (omega arith))))
+    rw (decimal-low n b, decimal-low (n / 10) (omega arith))
+    (simp (le-ltb n 10 h) (ap (λ (l : List ℕ). l ++ ((48 + n % 10) ∷ [])) (more 18 (n / 10) (div-lt-iff-lt-mul {k = 10} {x = n} {y = 10 ^ 19} (lit< tt) .1 (omega arith)))))
 
 pub decimal-step-length : (n : ℕ) → 10 ≤ n → n < 2 ^ 64 → length (decimal n) ≡ length (decimal (n / 10)) + 1
 decimal-step-length n h b = ap length (decimal-step n h b) ∙ length-append (decimal (n / 10)) ((48 + n % 10) ∷ [])
@@ -97,6 +102,5 @@ digits-short (suc most) n = go (ltb n 10) (digits-short most (n / 10))
     go true ih = omega arith
     go false ih = omega (arith, length-append (digits most (n / 10)) ((48 + n % 10) ∷ []))
 
-pub decimal-short : (n : ℕ) → length (decimal n) ≤ 20
-unfolding decimal
-decimal-short n = digits-short 19 n
+pub decimal-short : (n : ℕ) → n < 2 ^ 64 → length (decimal n) ≤ 20
+decimal-short n h = rw (decimal-low n h) (digits-short 19 n)

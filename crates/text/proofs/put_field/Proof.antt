@@ -7,7 +7,7 @@ use Rattle.text.proofs.put_field.Statement.{statement}
 use Rattle.text.proofs.put_field.Tie as tie
 
 put-number-requires : tie.Need-put-number-requires
-put-number-requires c κs = omega (arith, decimal-short (c .before .before .before .before .before .before .before .args .n))
+put-number-requires c κs = let s = c .before .before .before .before .before .before .before in omega (arith, decimal-short (s .args .n) (s .fits .n .fits))
 
 returns : tie.Need-returns
 unfolding fieldOf
@@ -15,7 +15,7 @@ returns c =
     let b = c .before .before in
     let a = b .before .before .before .before in
     let s = a .before .before .before .before in
-    (omega (arith, a .put .ensures .behind, b .put-number .ensures .behind, decimal-short (s .args .n)), then (a .put .ensures) (b .put-number .ensures))
+    (omega (arith, a .put .ensures .behind, b .put-number .ensures .behind, decimal-short (s .args .n) (s .fits .n .fits)), then (a .put .ensures) (b .put-number .ensures))
 
 pub put-field-spec : {M : Type 1} → statement M
 put-field-spec = tie.close (tie.spec (λ c κs. search needs) put-number-requires (λ c. search needs) returns)
