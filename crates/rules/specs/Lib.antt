@@ -6,9 +6,13 @@ pub mod Tables
 pub mod Section
 pub mod Steps
 pub mod Gathering
+pub mod Offering
 pub mod Holding
+pub mod OfBox
 pub mod Search
 pub mod Tuning
+pub mod Answered
+pub mod Runs
 pub mod Said
 pub mod Lineup
 pub mod Feeding
