@@ -1,6 +1,7 @@
 -- The bridge from the records of a section that reads right to the walk of the searches: a live place that passed check 16 reads
 -- right as its table, so its records are those that the walk goes over. Proved once, over the table.
 use Prim.Native.Nat.{ℕ, _<_}
+use native.Mathlib.Omega.{arith}
 use mathlib.Core.Path.{_≡_, sym, ap, _∙_}
 use mathlib.Core.Bool.{Bool}
 use mathlib.Core.List.{List}
@@ -10,7 +11,7 @@ use Rattle.rules.specs.Bytes.{Got, got, from}
 use Rattle.rules.specs.Layout.{Numbered, records}
 use Rattle.rules.specs.Tables.{vcmHead, vcm, dcmHead, dcm}
 use Rattle.rules.specs.Section.{Structure, structure, Content, right, withoutCrc, readSection, recordsAt}
-use Rattle.rules.specs.Holding.{sectionAt, liveAt}
+use Rattle.rules.specs.Holding.{sectionAt, holdingOf, liveAt, readFor}
 use Rattle.rules.specs.Tuning.{liveCount, liveReading, recordsIn, liveSection, carriersIn, modesIn, channelsIn, rangesIn}
 use Rattle.rules.specs.declared.Table.{Table}
 use Rattle.rules.specs.declared.Table.the-variants.{Cds, Mms, Vcm, Dcm}
@@ -20,10 +21,15 @@ use Rattle.rules.specs.declared.DcmHead.{DcmHead}
 use Rattle.rules.proofs.Taken.{then-got, giving-got, head-got}
 use Rattle.rules.proofs.Places.{from-from}
 use Rattle.rules.proofs.Right.{reads-right}
+use Rattle.rules.proofs.States.{limit-low}
 use Rattle.rules.proofs.LivePlaces.{table-says}
 use Rattle.rules.proofs.Search.{Before, Within, enter}
 use Rattle.search.specs.Live.{Live, RecordOf, layoutOf, recordsOf, walkOf}
 use Rattle.search.specs.declared.Walk.{Walk}
+
+-- a byte counts the live sections
+pub few-sections : {s : State} {store : List ℕ} {t : Table} → Live s store t → holdingOf s t .live .last < 8
+few-sections {s} live = let low = limit-low s in omega (arith, live .few)
 
 -- what is read behind a head that was got
 behind-head : {H A : Type 0} (f : H → List ℕ → Got A) (h k : H) (x y : List ℕ) (g : Got A) → h ≡ k → x ≡ y → f h x ≡ g → f k y ≡ g
@@ -61,7 +67,7 @@ pub enter-live : (s : State) (store : List ℕ) (t : Table) {test : Numbered (Re
     → b ≡ withoutCrc (sectionAt store (liveAt s t i)) → w ≡ walkOf t b → i < liveCount s t
     → Before test (liveSection (recordsOf t) s store t) (liveCount s t) i answer
     → Within (layoutOf t (w .included)) test (liveSection (recordsOf t) s store t) (liveCount s t) i (w .count) (w .index) b (w .at) answer
-unfolding liveSection liveReading
+unfolding liveSection liveReading readFor
 enter-live s store t {i = i} live b w p q h before =
     let place = table-says s store t (live .reads) i h in
     let walk = section-walk t (sectionAt store (liveAt s t i)) (place .content) (place .reads) (place .table) b w p q in
