@@ -18,6 +18,10 @@ use rules::Tables;
 
 // ---- the state
 
+// Bytes of the store of a fresh box: an array's length can't be asked of `state::store_size`. Who lends such an array proves that it
+// is as long as the rule says.
+pub const STORE: usize = 32768;
+
 // Nothing live, nothing gathered, and the half set to 1, so that gathering uses half 0.
 pub fn start(map: u16) -> State
     ensures { λ x. ⌜ x ≡ fresh map ⌝ }
