@@ -15,7 +15,6 @@ use Rattle.rules.specs.Gathering.{Collector, BoxOf, Outcome, placeOf, se
 use Rattle.rules.specs.Offering.{Taking, TakenIn}
 use Rattle.rules.specs.declared.Holding.{Holding}
 use Rattle.rules.specs.declared.Revision.{Revision}
-use Rattle.rules.specs.declared.Answer.{Answer}
 use Rattle.rules.proofs.Right.{one-right}
 use Rattle.rules.proofs.Taken.{differ}
 use Rattle.rules.proofs.Held.{holds-all}

@@ -8,13 +8,12 @@ use mathlib.Core.Bool.{Bool, true, false}
 use mathlib.Core.List.{List, [], _∷_}
 use lib.Dec.{leb, eqb}
 use borrow.Author.Tests.{ltb-true, eqb-true, eqb-false, eq-eqb}
-use Rattle.rules.specs.Section.{right}
-use Rattle.rules.specs.Steps.{noneLive, noneGathered, freshHolding, holds, isGathered, liveFormed, holdingFormed, heldWith, goneLive, gathering, stepOf, takesIn}
+use Rattle.rules.specs.Steps.{noneLive, noneGathered, freshHolding, holds, liveFormed, holdingFormed, heldWith, goneLive, gathering, stepOf, takesIn}
 use Rattle.rules.specs.Gathering.{Collector, BoxOf, placeOf, sectionAt, gatheredAt, answerTo, boxAfter, run}
 use Rattle.rules.specs.Offering.{Taking, TakenIn, NotOf, Wanted}
 use Rattle.rules.specs.declared.Holding.{Holding}
 use Rattle.rules.specs.declared.Revision.{Revision}
-use Rattle.rules.proofs.Taken.{both-left, both-right}
+use Rattle.rules.proofs.Taken.{both-right}
 use Rattle.rules.proofs.Held.{all-lt, holds-all, held-below}
 use Rattle.rules.proofs.Right.{one-right}
 use Rattle.rules.proofs.Formed.{formed, gathered-clauses}

@@ -1,7 +1,7 @@
 -- What document 01 and the tender promise of holding and going live, of every lawful collector at once. Of a new collector it is one line:
 -- `gathers` of its laws.
 use Prim.Native.Nat.{ℕ, _≤_, _<_}
-use mathlib.Core.Path.{_≡_, sym, _∙_}
+use mathlib.Core.Path.{_≡_}
 use mathlib.Core.Bool.{true, false, cond}
 use mathlib.Core.List.{List, _∷_}
 use lib.ListN.{length}
@@ -17,7 +17,7 @@ use Rattle.rules.proofs.Offering.{complete-lives}
 use Rattle.rules.proofs.Placed.{held-stays, live-sections, live-section-kept}
 use Rattle.rules.proofs.GoingLive.{goes-live}
 use Rattle.rules.proofs.Faithful.{FaithfulBox, section-placed, faithful-run, faithful-fresh}
-use Rattle.rules.proofs.Alike.{Bared, Alike, Paired, itself, each-itself, alike-itself, fresh-alike, run-alike}
+use Rattle.rules.proofs.Alike.{Bared, Paired, itself, each-itself, alike-itself, fresh-alike, run-alike}
 
 module _ {T S C : Type 0} (co : Collector T S C) where
   open Collector co using (holding as holdingOf, limit as limitOf, read as readFor, table as tableOf, revision as revisionOf)

@@ -28,7 +28,6 @@ use Rattle.rules.specs.declared.Holding.{Holding}
 use Rattle.rules.specs.declared.Revision.{Revision}
 use Rattle.rules.specs.declared.State.{State}
 use Rattle.rules.specs.declared.Stepped.{Stepped}
-use Rattle.rules.specs.declared.Offered.{Offered}
 use Rattle.rules.specs.declared.Answer.{Answer}
 use Rattle.rules.specs.declared.Answer.the-variants.{Refused, OtherMap, Repeat, Stored, Live}
 use Rattle.rules.specs.declared.Asked.{Asked}

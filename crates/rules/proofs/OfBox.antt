@@ -1,26 +1,22 @@
 -- What holds of every lawful collector, said of the box: each line is an instance. The collector is `box`, its laws are `lawful`.
 use Prim.Native.Nat.{ℕ, _+_, _-_, _<_, _≤_}
 use native.Mathlib.Omega.{arith}
-use mathlib.Core.Path.{_≡_, refl, ap, _∙_}
-use mathlib.Core.Bool.{Bool, true, false, cond, not}
+use mathlib.Core.Path.{_≡_, ap, _∙_}
+use mathlib.Core.Bool.{true, false, cond}
 use mathlib.Core.List.{List, _∷_}
 use lib.Dec.{eqb}
-use lib.ListN.{length, take}
-use borrow.Author.Tests.{eqb-true, eqb-false, eq-eqb, ne-eqb, not-true}
-use Rattle.rules.specs.Bytes.{from}
+use borrow.Author.Tests.{eqb-true, eq-eqb}
 use Rattle.rules.specs.Section.{Content, right}
 use Rattle.rules.specs.Gathering as Gathering
-use Rattle.rules.specs.Holding.{limitOf, indexOf, placeOf, sectionAt, holdingOf, liveAt, gatheredAt, freshHolding, fresh, stepOf, readFor, takesIn, Box, answerTo, boxAfter, run, box}
+use Rattle.rules.specs.Holding.{limitOf, indexOf, sectionAt, holdingOf, liveAt, gatheredAt, fresh, stepOf, readFor, takesIn, Box, answerTo, boxAfter, run, box}
 use Rattle.rules.specs.Offering.{goesLive, SameLive, Sound}
 use Rattle.rules.specs.OfBox.{Passed, NotOf, TakenIn, NowLive, NowHeld, OtherMapped, Offering, Wanted, NoneOther, Promised}
 use Rattle.rules.specs.Tuning.{tuned, tableLive, allLive, liveCount, liveReading, isSection, readsAs, placeReads, tableReads, allRead}
 use Rattle.rules.specs.declared.Table.{Table}
-use Rattle.rules.specs.declared.Table.the-variants.{Cds, Mms, Vcm, Dcm}
 use Rattle.rules.specs.declared.State.{State}
 use Rattle.rules.specs.declared.Revision.{Revision}
 use Rattle.rules.specs.declared.Answer.{Answer}
 use Rattle.rules.specs.declared.Answer.the-variants.{Refused, Stored, Live}
-use Rattle.rules.proofs.Taken.{both-left, both-right}
 use Rattle.rules.proofs.States.{each-at, each-so, lawful, all-fresh}
 use Rattle.rules.proofs.Offers as Offers
 use Rattle.rules.proofs.Offering as Telling
