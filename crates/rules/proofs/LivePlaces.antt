@@ -1,4 +1,5 @@
--- Refusal 16 in plain words: "a place of a live table no longer reads right as that table, map, version, number and last".
+-- Refusals 15 and 16 are as they are told: each table that tuning needs is live, and each place of it "reads right as that table, map, version, number
+-- and last".
 use Prim.Native.Nat.{ℕ, zero, suc, _+_, _<_}
 use native.Mathlib.Omega.{arith}
 use mathlib.Core.Path.{_≡_, refl, sym, ap, _∙_}

@@ -77,13 +77,16 @@ pub data Tunes (p : Plant) (c : Channel) : Tuned → Type 0 where
   -- 20: "frequency below 54,000 or above 1,002,000 kHz"
   out-of-reach : {khz : ℕ} → (c .application ≡ 1 → ⊥) → Carried p c khz → (khz < 54000) ⊎ (1002000 < khz) → Tunes p c (Tuned.Refused 20)
   -- "analogue (frequency, standard, scrambled), with path and hidden"
-  analogue : {khz scrambled standard : ℕ} → (c .application ≡ 1 → ⊥) → Carried p c khz → 54000 ≤ khz → khz ≤ 1002000 → c .signal ≡ Signal.Analogue scrambled standard
+  analogue : {khz scrambled standard : ℕ} → (c .application ≡ 1 → ⊥) → Carried p c khz → 54000 ≤ khz → khz ≤ 1002000
+      → c .signal ≡ Signal.Analogue scrambled standard
       → Tunes p c (Tuned.Analogue (hidden c) (c .path) khz standard scrambled)
   -- 21: "digital, and mode reference 0 or without a record"
-  no-mode : {khz program mode : ℕ} → (c .application ≡ 1 → ⊥) → Carried p c khz → 54000 ≤ khz → khz ≤ 1002000 → c .signal ≡ Signal.Digital program mode
+  no-mode : {khz program mode : ℕ} → (c .application ≡ 1 → ⊥) → Carried p c khz → 54000 ≤ khz → khz ≤ 1002000
+      → c .signal ≡ Signal.Digital program mode
       → (mode ≡ 0) ⊎ Nowhere (ModeIs mode) (p .modes) → Tunes p c (Tuned.Refused 21)
   -- "digital (frequency, programme, mode record) .. with path and hidden"
-  digital : {khz program mode : ℕ} {m : Numbered Mode} → (c .application ≡ 1 → ⊥) → Carried p c khz → 54000 ≤ khz → khz ≤ 1002000 → c .signal ≡ Signal.Digital program mode
+  digital : {khz program mode : ℕ} {m : Numbered Mode} → (c .application ≡ 1 → ⊥) → Carried p c khz → 54000 ≤ khz → khz ≤ 1002000
+      → c .signal ≡ Signal.Digital program mode
       → 0 < mode → First (ModeIs mode) (p .modes) m → Tunes p c (Tuned.Digital (hidden c) (c .path) khz program (m .what))
 
 -- ---- what a channel number is tuned to

@@ -160,7 +160,8 @@ module _ {T S C : Type 0} (co : Collector T S C) where
           → OtherLast (holdingOf (b .state) (tableOf c)) (revisionOf c) → Offering b section (Refused 13)
       -- step 4: *repeat*
       repeated : {c : C} → Passed (b .state) (b .store) section c → revisionOf c .last < limitOf (b .state)
-          → (OtherLast (holdingOf (b .state) (tableOf c)) (revisionOf c) → ⊥) → Repeated (holdingOf (b .state) (tableOf c)) (revisionOf c) → Offering b section Repeat
+          → (OtherLast (holdingOf (b .state) (tableOf c)) (revisionOf c) → ⊥) → Repeated (holdingOf (b .state) (tableOf c)) (revisionOf c)
+          → Offering b section Repeat
       -- step 6: "If all of 0 to last are held"
       live : {c : C} → New b section c → ((k : ℕ) → k ≤ revisionOf c .last → NowHas (holdingOf (b .state) (tableOf c)) (revisionOf c) k)
           → Offering b section (Live (revisionOf c .version))
@@ -189,7 +190,8 @@ module _ {T S C : Type 0} (co : Collector T S C) where
     -- no other version of the table: whatever reads right, is for our map and of the table, and has a last number that is not
     -- refused as 12, is of that version
     pub record NoOther (section : List ℕ) : Type 0 where
-      pub only : (c : C) → readFor start section ≡ right c → setAside start c ≡ false → tableOf c ≡ t → revisionOf c .last < limitOf start → revisionOf c .version ≡ v
+      pub only : (c : C) → readFor start section ≡ right c → setAside start c ≡ false → tableOf c ≡ t → revisionOf c .last < limitOf start
+          → revisionOf c .version ≡ v
 
     abbrev pub NoneOther : (sections : List (List ℕ)) → Type 0
     NoneOther [] = Unit {0}
