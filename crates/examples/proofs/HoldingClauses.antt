@@ -2,9 +2,10 @@
 use Prim.Native.Nat.{ℕ, _*_}
 use mathlib.Core.Path.{_≡_, refl}
 use mathlib.Core.List.{List, [], _∷_, _++_, map}
+use mathlib.Core.Option.{none, some}
 use lib.ListN.{length, replicate}
 use Rattle.rules.specs.Section.{Content, right, wrong}
-use Rattle.rules.specs.Holding.{placeOf, storeSize, sectionAt, put, holdingOf, with, liveAt, gatheredAt, noneLive, noneGathered, freshHolding, fresh, holds, allOf, liveFormed, gatheredFormed, sameVersion, holdingFormed, stepOf, offeredAs, offered, takesIn, storeAfter, answerTo, boxAfter}
+use Rattle.rules.specs.Holding.{placeOf, storeSize, sectionAt, put, holdingOf, with, liveAt, gatheredAt, noneLive, noneGathered, freshHolding, fresh, holds, allOf, liveFormed, gatheredFormed, sameVersion, holdingFormed, stepOf, offeredAs, offered, touches, takesIn, storeAfter, answerTo, boxAfter}
 use Rattle.rules.specs.declared.Table.{Table}
 use Rattle.rules.specs.declared.Table.the-variants.{Cds, Mms, Vcm, Dcm}
 use Rattle.rules.specs.declared.LiveVersion.{LiveVersion}
@@ -30,7 +31,7 @@ abbrev pub holding : LiveVersion → GatheredVersion → (half : ℕ) → Holdin
 holding l g half = record { live = l; gathered = g; half = half }
 
 abbrev pub state : (cds mms vcm dcm : Holding) → State
-state cds mms vcm dcm = record { map = 0x0102; cds = cds; mms = mms; vcm = vcm; dcm = dcm }
+state cds mms vcm dcm = record { tables = record { cds = cds; mms = mms; vcm = vcm; dcm = dcm }; settings = record { map = 0x0102 } }
 
 -- the same of each table
 abbrev pub allTables : Holding → State
@@ -116,8 +117,8 @@ pub record HoldingClauses : Type 0 where
   pub held-bits : map (λ n. asNumber (holds 0x0A n)) (0 ∷ 1 ∷ 2 ∷ 3 ∷ 4 ∷ []) ≡ 0 ∷ 1 ∷ 0 ∷ 1 ∷ 0 ∷ []
   pub all-held : map allOf (0 ∷ 1 ∷ 2 ∷ 3 ∷ 7 ∷ []) ≡ 1 ∷ 3 ∷ 7 ∷ 15 ∷ 255 ∷ []
   -- ---- refusal 1, before 2: a store shorter than 32,768 bytes. Where 1 and 2 pass, no section at all is 3
-  pub one : map (λ size. offered (fresh 0) size [] .answer) (32767 ∷ 32768 ∷ 40000 ∷ []) ≡ Refused 1 ∷ Refused 3 ∷ Refused 3 ∷ []
-  pub one-first : offered (state first second third (holding noneLive noneGathered 2)) 32767 [] .answer ≡ Refused 1
+  pub one : map (λ size. offered (fresh 0) (replicate size 0) [] .answer) (32767 ∷ 32768 ∷ 40000 ∷ []) ≡ Refused 1 ∷ Refused 3 ∷ Refused 3 ∷ []
+  pub one-first : offered (state first second third (holding noneLive noneGathered 2)) (replicate 32767 0) [] .answer ≡ Refused 1
   -- ---- refusal 2, of what is live: version above 31, last above 3; present is 0 or 1; absent with a field not zero
   pub two-version : answered (λ n. formedLive (live 1 n 0)) 1 256 ≡ counting 0 32
   pub two-last : answered (λ n. formedLive (live 1 0 n)) 1 256 ≡ counting 0 4
@@ -149,7 +150,7 @@ pub record HoldingClauses : Type 0 where
   pub two-both : formed both ∷ formed (holding (live 1 6 4) (gathered 1 5 3 6) 0) ∷ formed (holding (live 1 6 1) (gathered 1 5 4 6) 0) ∷ [] ≡ 1 ∷ 0 ∷ 0 ∷ []
   -- each table is judged, and 2 comes before what the section is
   pub two-tables :
-      map (λ s. offered s 32768 [] .answer)
+      map (λ s. offered s emptyStore [] .answer)
       (mixed
       ∷ with mixed Cds (holding noneLive noneGathered 2)
       ∷ with mixed Mms (holding noneLive noneGathered 2)
@@ -229,8 +230,12 @@ pub record HoldingClauses : Type 0 where
   pub stores-state :
       boxAfter (record { state = fresh 0; store = emptyStore }) carriersTwo .state
       ≡ with (fresh 0) Cds (holding noneLive (gathered 1 5 3 0x04) 1)
+  -- whose table a section touches: none's where it is for another map or does not read right
+  pub touched :
+      touches (fresh 0) carriersTwo ∷ touches (fresh 0x0102) channelsLate ∷ touches (fresh 0) channelsLate ∷ touches (fresh 0) [] ∷ []
+      ≡ some Cds ∷ some Vcm ∷ none ∷ none ∷ []
   -- "Splice and time are not acted on"
-  pub at-once : offered (fresh 0x0102) 32768 channelsLate .answer ≡ Live 5
+  pub at-once : offered (fresh 0x0102) emptyStore channelsLate .answer ≡ Live 5
 
 pub holding-clauses : HoldingClauses
 unfolding computed swept
@@ -296,5 +301,6 @@ holding-clauses =
       stores-refused = refl;
       stores-answer = refl;
       stores-state = refl;
+      touched = refl;
       at-once = refl;
     }

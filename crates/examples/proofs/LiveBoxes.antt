@@ -28,7 +28,7 @@ plantStore = storeOf plantCds plantMms plantVcm plantDcm
 
 -- the records of C2, C3 and C4 as carriers 2 to 5, for channels 2 to 5 of map 0
 abbrev pub borderState : State
-borderState = record { map = 0; cds = live5 .cds; mms = live5 .mms; vcm = live5 .vcm; dcm = live5 .dcm }
+borderState = record { tables = live5 .tables; settings = record { map = 0 } }
 
 abbrev pub borderStore : List ℕ
 borderStore = storeOf bordersCds bordersMms bordersVcm bordersDcm

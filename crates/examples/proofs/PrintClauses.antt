@@ -23,11 +23,14 @@ use Rattle.examples.proofs.HoldingClauses.{live, gathered, holding}
 abbrev pub someLive : State
 someLive =
     record {
-      map = 258;
-      cds = holding (live 1 1 3) noneGathered 0;
-      mms = holding (live 1 0 0) (gathered 1 7 1 1) 0;
-      vcm = holding noneLive (gathered 1 3 1 1) 1;
-      dcm = holding noneLive noneGathered 1;
+      tables =
+          record {
+            cds = holding (live 1 1 3) noneGathered 0;
+            mms = holding (live 1 0 0) (gathered 1 7 1 1) 0;
+            vcm = holding noneLive (gathered 1 3 1 1) 1;
+            dcm = holding noneLive noneGathered 1;
+          };
+      settings = record { map = 258 };
     }
 
 abbrev pub someMode : Mode
@@ -67,7 +70,7 @@ pub record PrintClauses : Type 0 where
   -- ---- the lines
   pub versions : versionLines someLive ≡ text "cds=1\nmms=0\nvcm=none\ndcm=none\n"
   pub versions-other :
-      versionLines (record { map = 258; cds = someLive .dcm; mms = someLive .vcm; vcm = someLive .mms; dcm = someLive .cds })
+      versionLines (record { tables = record { cds = someLive .tables .dcm; mms = someLive .tables .vcm; vcm = someLive .tables .mms; dcm = someLive .tables .cds }; settings = someLive .settings })
       ≡ text "cds=none\nmms=none\nvcm=0\ndcm=1\n"
   pub no-version : map version (live 0 0 0 ∷ live 1 5 0 ∷ live 2 5 0 ∷ []) ≡ text "none" ∷ text "5" ∷ text "none" ∷ []
   pub headed : heading someLive 11 22 33 ≡ text "lineup=1\nmap=258\nsections=11\nrefused=22\n" ++ versionLines someLive ++ text "channels=33\n"

@@ -39,7 +39,7 @@ pub record SaidClauses : Type 0 where
       map (λ tag. askSaid tag plantDcm) (0x93 ∷ 0x94 ∷ [])
       ≡ record { refusal = 0; word = "part"; values = 15 ∷ 3 ∷ [] } ∷ record { refusal = 0; word = "none"; values = [] } ∷ []
   pub to-offer :
-      map (λ m. offerSaid (fresh m) 32768 plantDcm) (258 ∷ 259 ∷ [])
+      map (λ m. offerSaid (fresh m) (replicate 32768 0) plantDcm) (258 ∷ 259 ∷ [])
       ≡ record { refusal = 0; word = "live"; values = 5 ∷ [] } ∷ record { refusal = 0; word = "other map"; values = [] } ∷ []
   pub to-channel :
       map (tuneSaid (fresh 0) (replicate 32768 0)) (3 ∷ 4096 ∷ [])

@@ -8,7 +8,7 @@ use mathlib.Core.Option.{none, some}
 use lib.Dec.{eqb}
 use Rattle.rules.specs.Layout.{Numbered}
 use Rattle.rules.specs.Tables.{carriersOf, channelOf, rangeOf}
-use Rattle.rules.specs.Holding.{noneGathered, with}
+use Rattle.rules.specs.Holding.{noneGathered, with, notOurs}
 use Rattle.rules.specs.Search.{first, sections}
 use Rattle.rules.specs.Tuning.{Plant, isSection, every, covers, inReach, defined, lookUp}
 use Rattle.rules.specs.declared.Table.{Table}
@@ -67,7 +67,8 @@ eightAnalogue carrier = channelIs (hex "00 08 10 12 34" ++ (carrier ∷ hex "02 
 -- is a section of that table, map and revision the section n of the table that is live? Of the MMS the live last number is 2
 abbrev pub fits : Table → (n : ℕ) → (table : Table) → (map version number last : ℕ) → ℕ
 fits t n table map version number last =
-    asNumber (isSection (with live5 Mms (holding (live 1 5 2) noneGathered 0)) t n table map (revised version number last))
+    let s = with live5 Mms (holding (live 1 5 2) noneGathered 0) in
+    asNumber (isSection s t n table (notOurs s table map) (revised version number last))
 
 pub record TuningClauses : Type 0 where
   -- ---- refusal 16, unless each live place reads right

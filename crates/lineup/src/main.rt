@@ -3,7 +3,9 @@
 ghost use mathlib.Core.Path.{_≡_};
 ghost use Prim.Native.Nat.{_+_, _≤_, _<_};
 ghost use mathlib.Core.List.{[]};
-ghost use lib.ListN.{length, take, replicate};
+ghost use lib.ListN.{length, take};
+ghost use Rattle.rules.specs.Bytes.{word};
+ghost use Rattle.rules.specs.Lineup.{freshBox};
 ghost use Rattle.stream.specs.Tallied.{intakeOf, Room};
 ghost use Rattle.text.specs.Written.{Counts};
 ghost use Rattle.printout.specs.Shown.{Gathered};
@@ -66,7 +68,7 @@ fn follow(start: Tally, store: &mut [u8], buffer: &mut [u8]) -> Absorbed
 // What a fresh box has made of the sections of the whole input.
 fn gather(map: u16, store: &mut [u8], buffer: &mut [u8]) -> Tally
     requires { ⌜ length (now buffer) ≡ 65536 ⌝ }
-    requires { ⌜ now store ≡ replicate 32768 0 ⌝ }
+    requires { ⌜ now store ≡ freshBox map .store ⌝ }
     ensures { λ r. ⌜ Gathered map r (now (store .exit)) ⌝ }
 {
     let start = Tally {
@@ -89,7 +91,7 @@ fn line_up(
     lines: &mut [u8; 1183744],
 ) -> Printed
     requires { ⌜ length (now head) ≤ 2 ⌝ }
-    requires { ⌜ now store ≡ replicate 32768 0 ⌝ }
+    requires { ⌜ now store ≡ freshBox (word 0 (now head)) .store ⌝ }
     ensures { λ r. ⌜ Shown (now (head .entry)) (take (r .heading) (now (heading .exit))) (take (r .lines) (now (lines .exit))) ⌝ }
     ensures { λ r. ⌜ Counts (r .heading) (now (heading .exit)) ⌝ }
     ensures { λ r. ⌜ Counts (r .lines) (now (lines .exit)) ⌝ }
@@ -114,7 +116,7 @@ fn write(text: &[u8]) -> bool {
 }
 
 fn main() {
-    let mut store = [0u8; 32768];
+    let mut store = [0u8; receiver::STORE];
     let mut buffer = [0u8; PIECE];
     let mut heading = [0u8; 256];
     let mut lines = [0u8; printout::LINES];

@@ -1,7 +1,6 @@
 // Holding and going live: the state of a box by value, the store that is lent with it, and what an offered section does to
 // both. Refusals 1 and 2, the reader's 3 to 11, 12 and 13; other map, repeat, stored and live.
 ghost use mathlib.Core.Path.{_≡_};
-ghost use lib.ListN.{length};
 ghost use Rattle.rules.specs.Holding.{fresh, with, gatheredAt, takesIn, offered, storeAfter};
 ghost use Rattle.rules.specs.Said.{answerSaid, offerSaid};
 ghost use Rattle.receiver.specs.Taking.{answered, Admitted};
@@ -12,10 +11,16 @@ use rules::LiveVersion;
 use rules::Offered;
 use rules::Read;
 use rules::SectionHead;
+use rules::Settings;
 use rules::State;
 use rules::Table;
+use rules::Tables;
 
 // ---- the state
+
+// Bytes of the store of a fresh box: an array's length can't be asked of `state::store_size`. Who lends such an array proves that it
+// is as long as the rule says.
+pub const STORE: usize = 32768;
 
 // Nothing live, nothing gathered, and the half set to 1, so that gathering uses half 0.
 pub fn start(map: u16) -> State
@@ -36,11 +41,13 @@ pub fn start(map: u16) -> State
         half: 1,
     };
     State {
-        map,
-        cds: none,
-        mms: none,
-        vcm: none,
-        dcm: none,
+        tables: Tables {
+            cds: none,
+            mms: none,
+            vcm: none,
+            dcm: none,
+        },
+        settings: Settings { map },
     }
 }
 
@@ -48,25 +55,23 @@ pub fn start(map: u16) -> State
 fn with_holding(s: State, t: Table, h: Holding) -> State
     ensures { λ x. ⌜ x ≡ with s t h ⌝ }
 {
-    let mut r = s;
+    let mut tables = s.tables;
     match t {
         Table::Cds => {
-            r.cds = h;
-            r
+            tables.cds = h;
         }
         Table::Mms => {
-            r.mms = h;
-            r
+            tables.mms = h;
         }
         Table::Vcm => {
-            r.vcm = h;
-            r
+            tables.vcm = h;
         }
         Table::Dcm => {
-            r.dcm = h;
-            r
+            tables.dcm = h;
         }
     }
+    let settings = s.settings;
+    State { tables, settings }
 }
 
 // ---- the store
@@ -77,7 +82,7 @@ fn gathered_at(s: State, t: Table, n: u8) -> usize
 {
     let h = state::holding_of(s, t);
     let half = holding::gathering_half(h);
-    state::place_of(t, half, n)
+    state::place_of(s, t, half, n)
 }
 
 // ---- an offer
@@ -109,7 +114,7 @@ fn answer_to(s: State, head: SectionHead) -> Offered
     }
     let h = state::holding_of(s, t);
     let r = head.revision;
-    let stepped = holding::step(h, r);
+    let stepped = holding::step(state::limit_of(s), h, r);
     let answer = stepped.answer;
     let holding = stepped.holding;
     let state = with_holding(s, t, holding);
@@ -119,7 +124,7 @@ fn answer_to(s: State, head: SectionHead) -> Offered
 // A section that reads right, offered to a state and a store that pass checks 1 and 2.
 fn hold(state: State, store: &mut [u8], section: &[u8], head: SectionHead) -> Offered
     requires { ⌜ Admitted state (now store) (now section) head ⌝ }
-    ensures { λ x. ⌜ x ≡ offered state (length (now (store .entry))) (now (section .entry)) ⌝ }
+    ensures { λ x. ⌜ x ≡ offered state (now (store .entry)) (now (section .entry)) ⌝ }
     ensures { λ _. ⌜ now (store .exit) ≡ storeAfter state (now (store .entry)) (now (section .entry)) ⌝ }
 {
     let offered = answer_to(state, head);
@@ -136,11 +141,11 @@ fn hold(state: State, store: &mut [u8], section: &[u8], head: SectionHead) -> Of
 // What the box answers to a section, and its state then. Steps 5 and 6 put the section's bytes at the front of its place; in
 // every other case the store is as it was.
 pub fn offer(state: State, store: &mut [u8], section: &[u8]) -> Offered
-    ensures { λ x. ⌜ x ≡ offered state (length (now (store .entry))) (now (section .entry)) ⌝ }
+    ensures { λ x. ⌜ x ≡ offered state (now (store .entry)) (now (section .entry)) ⌝ }
     ensures { λ _. ⌜ now (store .exit) ≡ storeAfter state (now (store .entry)) (now (section .entry)) ⌝ }
-    ensures { λ x. ⌜ answerSaid (x .answer) ≡ offerSaid state (length (now (store .entry))) (now (section .entry)) ⌝ }
+    ensures { λ x. ⌜ answerSaid (x .answer) ≡ offerSaid state (now (store .entry)) (now (section .entry)) ⌝ }
 {
-    if store.len() < state::STORE {
+    if store.len() < state::store_size(state) {
         return Offered {
             answer: Answer::Refused(1),
             state,

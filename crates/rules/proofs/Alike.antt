@@ -12,18 +12,18 @@ use borrow.Author.Tests.{eqb-true, eqb-false, eq-eqb}
 use Rattle.rules.specs.Section.{ReadingOf, wrong, right}
 use Rattle.rules.specs.Steps.{noneLive, noneGathered, freshHolding, holds, allOf, holdingFormed, heldWith, goneLive, gathering, stepOf, takesIn}
 use Rattle.rules.specs.Gathering.{Collector, BoxOf, Outcome, placeOf, sectionAt, offeredAs, offered, answerTo, boxAfter, run, answers}
+use Rattle.rules.specs.Offering.{Taking, TakenIn}
 use Rattle.rules.specs.declared.Holding.{Holding}
 use Rattle.rules.specs.declared.Revision.{Revision}
-use Rattle.rules.specs.declared.Answer.{Answer}
 use Rattle.rules.proofs.Right.{one-right}
 use Rattle.rules.proofs.Taken.{differ}
 use Rattle.rules.proofs.Held.{holds-all}
 use Rattle.rules.proofs.Formed.{formed}
-use Rattle.rules.proofs.Steps.{held-before, Taking, taken-cases}
+use Rattle.rules.proofs.Steps.{gathered-says, held-before, taken-cases}
 use Rattle.rules.proofs.Lawful.{Lawful, same-table}
-use Rattle.rules.proofs.Offers.{TakenIn, taken-in, untouched, limit-kept, formed-kept, others-kept, step-holds}
+use Rattle.rules.proofs.Offers.{not-of, taken-in, untouched, reads-kept, limit-kept, formed-kept, others-kept, step-holds}
 use Rattle.rules.proofs.Kept.{length-kept}
-use Rattle.rules.proofs.Faithful.{live-low, gathered-low, gathered-named}
+use Rattle.rules.proofs.Faithful.{live-low, gathered-low}
 use Rattle.rules.proofs.Placed.{isPlace, place-after}
 
 -- ---- what a reading says but for what gathering does not look at
@@ -61,7 +61,7 @@ module _ (h : Holding) (r : Revision) (limit : ℕ) (k : Taking h r limit) (half
       go true e = inl (is, eqb-true n (r .number) e)
       go false e =
           let old = held-before h r n (eqb-false n (r .number) e) held in
-          inr (inr (gathered-named h (r .version) (old .0) .0, is, old .1))
+          inr (inr (gathered-says h (r .version) (old .0) .0, is, old .1))
 
   occupied-before : Occupied (stepOf limit h r .holding) half n → ((half ≡ 1 - h .half) × (n ≡ r .number)) ⊎ Occupied h half n
   unfolding goneLive noneGathered gathering
@@ -84,36 +84,40 @@ pub itself : {T S C : Type 0} (co : Collector T S C) → Bared co (λ c. c)
 itself co = record { table = λ c. refl; revision = λ c. refl; aside = λ s c. refl; word = λ s c. refl }
 
 module _ {T S C : Type 0} (co : Collector T S C) (bare : C → C) where
-  open Collector co using (index as indexOf, holding as holdingOf, limit as limitOf, read as readSection, table as tableOf, revision as revisionOf)
+  open Collector co using (index as indexOf, holding as holdingOf, limit as limitOf, read as readFor, table as tableOf, revision as revisionOf)
 
   -- two sections say the same but for that
-  pub record SaySame (s g : List ℕ) : Type 0 where
-    pub same : plain bare (readSection g) ≡ plain bare (readSection s)
+  pub record SaySame (s : S) (x y : List ℕ) : Type 0 where
+    pub same : plain bare (readFor s y) ≡ plain bare (readFor s x)
 
-  pub same-itself : (s : List ℕ) → SaySame s s
-  same-itself s = record { same = refl }
+  pub same-itself : (s : S) (x : List ℕ) → SaySame s x x
+  same-itself s x = record { same = refl }
+
+  -- to a state that reads as this one they do too
+  says-on : {s u : S} → ((z : List ℕ) → readFor u z ≡ readFor s z) → {x y : List ℕ} → SaySame s x y → SaySame u x y
+  says-on same {x} {y} w = record { same = ap (plain bare) (same y) ∙ w .same ∙ sym (ap (plain bare) (same x)) }
 
   -- whatever is blind to it comes to the same
-  pub by-plain : {X : Type 0} (f : ReadingOf C → X) → ((r : ReadingOf C) → f (plain bare r) ≡ f r) → {s g : List ℕ} → SaySame s g → f (readSection g) ≡ f (readSection s)
-  by-plain f blind {s} {g} w = sym (blind (readSection g)) ∙ ap f (w .same) ∙ blind (readSection s)
+  pub by-plain : {X : Type 0} (f : ReadingOf C → X) → ((r : ReadingOf C) → f (plain bare r) ≡ f r) → {s : S} {x y : List ℕ} → SaySame s x y → f (readFor s y) ≡ f (readFor s x)
+  by-plain f blind {s} {x} {y} w = sym (blind (readFor s y)) ∙ ap f (w .same) ∙ blind (readFor s x)
 
   pub record Alike (b c : BoxOf S) : Type 0 where
     pub state : c .state ≡ b .state
     pub size : length (c .store) ≡ length (b .store)
     pub places : (t : T) (half n : ℕ) → Occupied (holdingOf (b .state) t) half n
-        → SaySame (sectionAt co (b .store) (placeOf co (limitOf (b .state)) t half n)) (sectionAt co (c .store) (placeOf co (limitOf (b .state)) t half n))
+        → SaySame (b .state) (sectionAt co (b .store) (placeOf co (limitOf (b .state)) t half n)) (sectionAt co (c .store) (placeOf co (limitOf (b .state)) t half n))
 
   pub alike-itself : (b : BoxOf S) → Alike b b
-  alike-itself b = record { state = refl; size = refl; places = λ t half n o. same-itself _ }
+  alike-itself b = record { state = refl; size = refl; places = λ t half n o. same-itself _ _ }
 
   -- sections that say the same, one by one
-  pub data Paired : List (List ℕ) → List (List ℕ) → Type 0 where
-    none : Paired [] []
-    pair : {x y : List ℕ} {xs ys : List (List ℕ)} → SaySame x y → Paired xs ys → Paired (x ∷ xs) (y ∷ ys)
+  pub data Paired (s : S) : List (List ℕ) → List (List ℕ) → Type 0 where
+    none : Paired s [] []
+    pair : {x y : List ℕ} {xs ys : List (List ℕ)} → SaySame s x y → Paired s xs ys → Paired s (x ∷ xs) (y ∷ ys)
 
-  pub each-itself : (xs : List (List ℕ)) → Paired xs xs
-  each-itself [] = none
-  each-itself (x ∷ xs) = pair (same-itself x) (each-itself xs)
+  pub each-itself : (s : S) (xs : List (List ℕ)) → Paired s xs xs
+  each-itself s [] = none
+  each-itself s (x ∷ xs) = pair (same-itself s x) (each-itself s xs)
 
   -- where nothing is live or held it does not matter what stands in the store
   pub fresh-alike : (start : S) (store other : List ℕ) → ((t : T) → holdingOf start t ≡ freshHolding) → length other ≡ length store
@@ -133,13 +137,13 @@ module _ {T S C : Type 0} (co : Collector T S C) (bare : C → C) where
     offered-plain s (wrong n) = refl
     offered-plain s (right c) = rw (blind .aside s c, blind .word s c, blind .table c, blind .revision c) refl
 
-    offered-same : (s : S) (size : ℕ) {x y : List ℕ} → SaySame x y → offered co s size y ≡ offered co s size x
+    offered-same : (s : S) (store other : List ℕ) {x y : List ℕ} → length other ≡ length store → SaySame s x y → offered co s other y ≡ offered co s store x
     unfolding offered
-    offered-same s size w = rw (by-plain (offeredAs co s) (offered-plain s) w) refl
+    offered-same s store other e w = rw (e, by-plain (offeredAs co s) (offered-plain s) w) refl
 
-    right-same : (x y : List ℕ) (c d : C) → readSection x ≡ right c → readSection y ≡ right d → SaySame x y → (tableOf d ≡ tableOf c) × (revisionOf d ≡ revisionOf c)
+    right-same : (s : S) (x y : List ℕ) (c d : C) → readFor s x ≡ right c → readFor s y ≡ right d → SaySame s x y → (tableOf d ≡ tableOf c) × (revisionOf d ≡ revisionOf c)
     unfolding plain
-    right-same x y c d ex ey w =
+    right-same s x y c d ex ey w =
         let k : bare d ≡ bare c = one-right (ap (plain bare) (sym ey) ∙ w .same ∙ ap (plain bare) ex) in
         (sym (blind .table d) ∙ ap (λ (z : C). tableOf z) k ∙ blind .table c, sym (blind .revision d) ∙ ap (λ (z : C). revisionOf z) k ∙ blind .revision c)
 
@@ -162,16 +166,16 @@ module _ {T S C : Type 0} (co : Collector T S C) (bare : C → C) where
               let before = occupied-before (holdingOf (b .state) (tableOf c)) (revisionOf c) (limitOf (b .state)) (k .taking) half n (rw (step-holds co law b x c (k .passed)) at now) in
               own t q (subst (λ (u : T). ((half ≡ 1 - holdingOf (b .state) u .half) × (n ≡ revisionOf c .number)) ⊎ Occupied (holdingOf (b .state) u) half n) q before) away
           go (inr ne) =
-              rw (others-kept co law b x t (record { other = λ d e q. ne (ap (λ (z : C). tableOf z) (one-right (sym (k .passed .reads) ∙ e)) ∙ q) })) at o
+              rw (others-kept co law b x t (not-of co (b .state) x c t (k .passed .reads) ne)) at o
 
-    either : (p : Bool) {x y u v : List ℕ} → SaySame x y → (p ≡ false → SaySame u v) → SaySame (cond p x u) (cond p y v)
+    either : (p : Bool) {s : S} {x y u v : List ℕ} → SaySame s x y → (p ≡ false → SaySame s u v) → SaySame s (cond p x u) (cond p y v)
     either true w v = w
     either false w v = v refl
 
     -- one offer
-    module _ (b c : BoxOf S) (x y : List ℕ) (a : Alike b c) (w : SaySame x y) where
-      offer-alike : offered co (c .state) (length (c .store)) y ≡ offered co (b .state) (length (b .store)) x
-      offer-alike = rw (a .state, a .size) (offered-same (b .state) (length (b .store)) w)
+    module _ (b c : BoxOf S) (x y : List ℕ) (a : Alike b c) (w : SaySame (b .state) x y) where
+      offer-alike : offered co (c .state) (c .store) y ≡ offered co (b .state) (b .store) x
+      offer-alike = rw (a .state) (offered-same (b .state) (b .store) (c .store) (a .size) w)
 
       pub answer-alike : answerTo co c y ≡ answerTo co b x
       unfolding answerTo
@@ -183,9 +187,9 @@ module _ {T S C : Type 0} (co : Collector T S C) (bare : C → C) where
 
       -- where both were taken in they stand in the same place
       places-alike : (d e : C) → TakenIn co b x d → TakenIn co c y e → (t : T) (half n : ℕ) → Occupied (holdingOf (boxAfter co b x .state) t) half n
-          → SaySame (sectionAt co (boxAfter co b x .store) (placeOf co (limitOf (b .state)) t half n)) (sectionAt co (boxAfter co c y .store) (placeOf co (limitOf (b .state)) t half n))
+          → SaySame (b .state) (sectionAt co (boxAfter co b x .store) (placeOf co (limitOf (b .state)) t half n)) (sectionAt co (boxAfter co c y .store) (placeOf co (limitOf (b .state)) t half n))
       places-alike d e k l t half n o =
-          let both = right-same x y d e (k .passed .reads) (l .passed .reads) w in
+          let both = right-same (b .state) x y d e (k .passed .reads) (rw (a .state) at (l .passed .reads)) w in
           let lies = occupied-low (limitOf (boxAfter co b x .state)) (holdingOf (boxAfter co b x .state) t) half n (table-formed (boxAfter co b x .state) t (formed-kept co law b x (k .passed .good))) o in
           let low : n < limitOf (b .state) = rw (limit-kept co law b x) at (lies .1) in
           let there =
@@ -205,13 +209,18 @@ module _ {T S C : Type 0} (co : Collector T S C) (bare : C → C) where
               record {
                 state = state-alike;
                 size = length-kept co law c y ∙ a .size ∙ sym (length-kept co law b x);
-                places = λ t half n o. rw (limit-kept co law b x) (places-alike _ _ k l t half n o);
+                places = λ t half n o. says-on (reads-kept co law b x) (rw (limit-kept co law b x) (places-alike _ _ k l t half n o));
               }
 
-    -- a run
-    pub run-alike : {ss gs : List (List ℕ)} → Paired ss gs → (b c : BoxOf S) → Alike b c → (answers co c gs ≡ answers co b ss) × Alike (run co b ss) (run co c gs)
+    -- a run, from a state that reads as the first one does
+    run-on : (start : S) {ss gs : List (List ℕ)} → Paired start ss gs → (b c : BoxOf S) → ((x : List ℕ) → readFor (b .state) x ≡ readFor start x) → Alike b c
+        → (answers co c gs ≡ answers co b ss) × Alike (run co b ss) (run co c gs)
     unfolding run answers
-    run-alike none b c a = (refl, a)
-    run-alike (pair {x} {y} w g) b c a =
-        let more = run-alike g (boxAfter co b x) (boxAfter co c y) (alike-after b c x y a w) in
+    run-on start none b c same a = (refl, a)
+    run-on start (pair {x} {y} v g) b c same a =
+        let w = says-on same v in
+        let more = run-on start g (boxAfter co b x) (boxAfter co c y) (λ z. reads-kept co law b x z ∙ same z) (alike-after b c x y a w) in
         (rw (answer-alike b c x y a w, more .0) refl, more .1)
+
+    pub run-alike : (b c : BoxOf S) {ss gs : List (List ℕ)} → Paired (b .state) ss gs → Alike b c → (answers co c gs ≡ answers co b ss) × Alike (run co b ss) (run co c gs)
+    run-alike b c g a = run-on (b .state) g b c (λ x. refl) a

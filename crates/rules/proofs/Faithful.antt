@@ -8,21 +8,20 @@ use mathlib.Core.Bool.{Bool, true, false}
 use mathlib.Core.List.{List, [], _∷_}
 use lib.Dec.{leb, eqb}
 use borrow.Author.Tests.{ltb-true, eqb-true, eqb-false, eq-eqb}
-use Rattle.rules.specs.Section.{right}
-use Rattle.rules.specs.Steps.{noneLive, noneGathered, freshHolding, holds, isGathered, liveFormed, holdingFormed, heldWith, goneLive, gathering, stepOf, takesIn}
+use Rattle.rules.specs.Steps.{noneLive, noneGathered, freshHolding, holds, liveFormed, holdingFormed, heldWith, goneLive, gathering, stepOf, takesIn}
 use Rattle.rules.specs.Gathering.{Collector, BoxOf, placeOf, sectionAt, gatheredAt, answerTo, boxAfter, run}
+use Rattle.rules.specs.Offering.{Taking, TakenIn, NotOf, Wanted}
 use Rattle.rules.specs.declared.Holding.{Holding}
 use Rattle.rules.specs.declared.Revision.{Revision}
-use Rattle.rules.proofs.Taken.{both-left, both-right}
+use Rattle.rules.proofs.Taken.{both-right}
 use Rattle.rules.proofs.Held.{all-lt, holds-all, held-below}
 use Rattle.rules.proofs.Right.{one-right}
 use Rattle.rules.proofs.Formed.{formed, gathered-clauses}
-use Rattle.rules.proofs.Steps.{gathered-last, held-before, Taking, taken-cases}
+use Rattle.rules.proofs.Steps.{gathered-says, gathered-last, held-before, taken-cases}
 use Rattle.rules.proofs.Store.{same-section, section-there}
 use Rattle.rules.proofs.Lawful.{Lawful, same-table}
-use Rattle.rules.proofs.Offers.{NotOf, TakenIn, taken-in, untouched, aside-kept, limit-kept, others-kept, step-holds}
+use Rattle.rules.proofs.Offers.{not-of, taken-in, untouched, reads-kept, aside-kept, limit-kept, others-kept, step-holds}
 use Rattle.rules.proofs.Kept.{place-kept, other-places}
-use Rattle.rules.proofs.GoingLive.{Wanted}
 
 -- ---- numbers of a well-formed holding are below the limit
 
@@ -37,13 +36,8 @@ module _ (limit : ℕ) (h : Holding) (good : holdingFormed limit h ≡ true) whe
       let below = gathered-clauses limit h good e in
       omega (arith, held-below (h .gathered .last + 1) (h .gathered .held) n (omega (arith, below .1, all-lt (h .gathered .last))) q, below .0)
 
-pub gathered-named : (h : Holding) (v : ℕ) → isGathered h v ≡ true → (h .gathered .present ≡ 1) × (h .gathered .version ≡ v)
-unfolding isGathered
-gathered-named h v g =
-    (eqb-true (h .gathered .present) 1 (both-left (eqb (h .gathered .present) 1) _ g), eqb-true (h .gathered .version) v (both-right (eqb (h .gathered .present) 1) _ g))
-
 module _ {T S C : Type 0} (co : Collector T S C) where
-  open Collector co using (holding as holdingOf, limit as limitOf, table as tableOf, revision as revisionOf, aside as setAside)
+  open Collector co using (holding as holdingOf, limit as limitOf, read as readFor, table as tableOf, revision as revisionOf, aside as setAside)
 
   -- of a table: the place of each live section, and of each held one, has that section of that version, for our map
   pub record Faithful (start : S) (store : List ℕ) (limit : ℕ) (t : T) (h : Holding) : Type 0 where
@@ -53,6 +47,7 @@ module _ {T S C : Type 0} (co : Collector T S C) where
         → Wanted co start t (h .gathered .version) (h .gathered .last) n (sectionAt co store (placeOf co limit t (1 - h .half) n))
 
   pub record FaithfulBox (start : S) (b : BoxOf S) : Type 0 where
+    pub reads : (x : List ℕ) → readFor (b .state) x ≡ readFor start x
     pub aside : (c : C) → setAside (b .state) c ≡ setAside start c
     pub tables : (t : T) → Faithful start (b .store) (limitOf (b .state)) t (holdingOf (b .state) t)
 
@@ -74,7 +69,7 @@ module _ {T S C : Type 0} (co : Collector T S C) where
         go false q =
             let ne = eqb-false n (r .number) q in
             let old = held-before h r n ne e in
-            let named = gathered-named h (r .version) (old .0) in
+            let named = gathered-says h (r .version) (old .0) in
             let low : n < limit = gathered-low limit h (k .ready .sound .good) n (named .0) (old .1) in
             rw (elsewhere (1 - h .half) n (omega arith) low (λ x. ne (x .1)))
             (rw (named .1, gathered-last h r (k .ready .apart) (old .0)) at (f .gathered (named .0) n (old .1)))
@@ -113,7 +108,7 @@ module _ {T S C : Type 0} (co : Collector T S C) where
   -- nothing is live or held at the start, so there is nothing to be unfaithful to
   pub faithful-fresh : (start : S) (store : List ℕ) → ((t : T) → holdingOf start t ≡ freshHolding) → FaithfulBox start (record { state = start; store = store })
   unfolding freshHolding noneLive noneGathered
-  faithful-fresh start store fresh = record { aside = λ c. refl; tables = λ t. rw (fresh t) (none t) }
+  faithful-fresh start store fresh = record { reads = λ x. refl; aside = λ c. refl; tables = λ t. rw (fresh t) (none t) }
     where
       none : (t : T) → Faithful start store (limitOf start) t freshHolding
       none t = record { live = λ e. absurd (omega (arith, e)); gathered = λ e. absurd (omega (arith, e)) }
@@ -126,7 +121,7 @@ module _ {T S C : Type 0} (co : Collector T S C) where
     -- in the place that it is put into a section is read again
     pub section-placed : (b : BoxOf S) (x : List ℕ) (c : C) → TakenIn co b x c → sectionAt co (boxAfter co b x .store) (gatheredAt co (b .state) (tableOf c) (revisionOf c .number)) ≡ x
     section-placed b x c k =
-        let r = reads-right x c (k .passed .reads) in
+        let r = reads-right (b .state) x c (k .passed .reads) in
         ap (λ (l : List ℕ). sectionAt co l (gatheredAt co (b .state) (tableOf c) (revisionOf c .number))) (k .stored)
         ∙ section-there co (b .store) (gatheredAt co (b .state) (tableOf c) (revisionOf c .number)) x (k .fits) (omega (arith, r .long)) (r .short) (r .whole)
 
@@ -145,7 +140,7 @@ module _ {T S C : Type 0} (co : Collector T S C) where
       own-table =
           faithful-taken start (limitOf s) (tableOf c) (holdingOf s (tableOf c)) (revisionOf c) (b .store) (after .store) x (k .taking)
           (section-placed b x c k) elsewhere
-          (record { content = c; reads = k .passed .reads; ours = sym (f .aside c) ∙ k .passed .ours; table = refl; revision = refl })
+          (record { content = c; reads = sym (f .reads x) ∙ k .passed .reads; ours = sym (f .aside c) ∙ k .passed .ours; table = refl; revision = refl })
           (f .tables (tableOf c))
         where
           elsewhere : (half n : ℕ) → half < 2 → n < limitOf s → ((half ≡ 1 - holdingOf s (tableOf c) .half) × (n ≡ revisionOf c .number) → ⊥)
@@ -161,7 +156,7 @@ module _ {T S C : Type 0} (co : Collector T S C) where
       each-table : (t : T) → (tableOf c ≡ t) ⊎ (tableOf c ≡ t → ⊥) → Faithful start (after .store) (limitOf (after .state)) t (holdingOf (after .state) t)
       each-table t (inl q) = rw (limit-kept co law b x, ← q, step-holds co law b x c (k .passed)) own-table
       each-table t (inr ne) =
-          let other : NotOf co t x = record { other = λ d e q. ne (ap (λ (y : C). tableOf y) (one-right (sym (k .passed .reads) ∙ e)) ∙ q) } in
+          let other : NotOf co s t x = not-of co s x c t (k .passed .reads) ne in
           rw (limit-kept co law b x, others-kept co law b x t other)
           (faithful-same start (b .store) (after .store) (limitOf s) t (holdingOf s t) (table-formed s t (k .passed .good))
           (λ half n halves low. same-section co (after .store) (b .store) (placeOf co (limitOf s) t half n) (other-places co law b x t other half n halves low)) (f .tables t))
@@ -174,7 +169,7 @@ module _ {T S C : Type 0} (co : Collector T S C) where
         go true e =
             let c = taken-in co law b x e .0 in
             let k = taken-in co law b x e .1 in
-            record { aside = λ d. aside-kept co law b x d ∙ f .aside d; tables = λ t. each-table start b x f c k t (same-table co law (tableOf c) t) }
+            record { reads = λ y. reads-kept co law b x y ∙ f .reads y; aside = λ d. aside-kept co law b x d ∙ f .aside d; tables = λ t. each-table start b x f c k t (same-table co law (tableOf c) t) }
 
     pub faithful-run : (start : S) (sections : List (List ℕ)) (b : BoxOf S) → FaithfulBox start b → FaithfulBox start (run co b sections)
     unfolding run

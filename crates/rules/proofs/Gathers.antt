@@ -1,7 +1,7 @@
 -- What document 01 and the tender promise of holding and going live, of every lawful collector at once. Of a new collector it is one line:
 -- `gathers` of its laws.
 use Prim.Native.Nat.{ℕ, _≤_, _<_}
-use mathlib.Core.Path.{_≡_, sym, _∙_}
+use mathlib.Core.Path.{_≡_}
 use mathlib.Core.Bool.{true, false, cond}
 use mathlib.Core.List.{List, _∷_}
 use lib.ListN.{length}
@@ -9,18 +9,18 @@ use lib.Dec.{eqb}
 use Rattle.rules.specs.Section.{right}
 use Rattle.rules.specs.Steps.{freshHolding, takesIn}
 use Rattle.rules.specs.Gathering.{Collector, BoxOf, sectionAt, liveAt, gatheredAt, answerTo, boxAfter, run, answers}
+use Rattle.rules.specs.Offering.{goesLive, SameLive, NowHas, NotOf, TakenIn, NowLive, NowHeld, New, Promised, Wanted, NoneOther}
 use Rattle.rules.specs.declared.Answer.the-variants.{Stored, Live}
-use Rattle.rules.proofs.Steps.{goesLive, SameLive}
 use Rattle.rules.proofs.Lawful.{Lawful}
-use Rattle.rules.proofs.Offers.{NotOf, TakenIn, NowLive, NowHeld, taken-in, untouched, went-live, live-kept, live-changes, others-kept, now-held}
-use Rattle.rules.proofs.Offering.{New, NowHas, complete-lives}
+use Rattle.rules.proofs.Offers.{taken-in, untouched, went-live, live-kept, live-changes, others-kept, now-held}
+use Rattle.rules.proofs.Offering.{complete-lives}
 use Rattle.rules.proofs.Placed.{held-stays, live-sections, live-section-kept}
-use Rattle.rules.proofs.GoingLive.{Promised, Wanted, NoneOther, goes-live}
+use Rattle.rules.proofs.GoingLive.{goes-live}
 use Rattle.rules.proofs.Faithful.{FaithfulBox, section-placed, faithful-run, faithful-fresh}
-use Rattle.rules.proofs.Alike.{Bared, Alike, Paired, itself, each-itself, alike-itself, fresh-alike, run-alike}
+use Rattle.rules.proofs.Alike.{Bared, Paired, itself, each-itself, alike-itself, fresh-alike, run-alike}
 
 module _ {T S C : Type 0} (co : Collector T S C) where
-  open Collector co using (holding as holdingOf, limit as limitOf, read as readSection, table as tableOf, revision as revisionOf)
+  open Collector co using (holding as holdingOf, limit as limitOf, read as readFor, table as tableOf, revision as revisionOf)
 
   pub record Gathers : Type 0 where
     -- condition 1: what is taken in has passed every check, and every other answer changes neither state nor store
@@ -30,7 +30,7 @@ module _ {T S C : Type 0} (co : Collector T S C) where
     pub live-completes : (b : BoxOf S) (section : List ℕ) (v : ℕ) → answerTo co b section ≡ Live v → NowLive co b section v
     pub complete-lives : (b : BoxOf S) (section : List ℕ) (c : C) → New co b section c
         → ((k : ℕ) → k ≤ revisionOf c .last → NowHas (holdingOf (b .state) (tableOf c)) (revisionOf c) k) → answerTo co b section ≡ Live (revisionOf c .version)
-    pub live-is-offered : (b : BoxOf S) (section : List ℕ) (v : ℕ) → answerTo co b section ≡ Live v → (c : C) → readSection section ≡ right c → (n : ℕ) → n ≤ revisionOf c .last
+    pub live-is-offered : (b : BoxOf S) (section : List ℕ) (v : ℕ) → answerTo co b section ≡ Live v → (c : C) → readFor (b .state) section ≡ right c → (n : ℕ) → n ≤ revisionOf c .last
         → sectionAt co (boxAfter co b section .store) (liveAt co (boxAfter co b section .state) (tableOf c) n)
         ≡ cond (eqb (revisionOf c .number) n) section (sectionAt co (b .store) (gatheredAt co (b .state) (tableOf c) n))
     pub taken-is-stored : (b : BoxOf S) (section : List ℕ) (c : C) → TakenIn co b section c
@@ -46,14 +46,14 @@ module _ {T S C : Type 0} (co : Collector T S C) where
     pub in-any-order : (b : BoxOf S) (t : T) (v last n : ℕ) (x : List ℕ) (xs : List (List ℕ)) → Promised co b t v last (x ∷ xs) → Wanted co (b .state) t v last n x
         → NoneOther co (b .state) t v last xs → holdingOf (run co b (x ∷ xs) .state) t .live ≡ record { present = 1; version = v; last = last }
     -- "a section of one table leaves the other tables' live records as they were": all that is held, and the live sections where what is live stays
-    pub other-holdings : (b : BoxOf S) (section : List ℕ) (t : T) → NotOf co t section → holdingOf (boxAfter co b section .state) t ≡ holdingOf (b .state) t
+    pub other-holdings : (b : BoxOf S) (section : List ℕ) (t : T) → NotOf co (b .state) t section → holdingOf (boxAfter co b section .state) t ≡ holdingOf (b .state) t
     pub same-sections : (b : BoxOf S) (section : List ℕ) (t : T) → SameLive (holdingOf (boxAfter co b section .state) t) (holdingOf (b .state) t) → (n : ℕ) → n ≤ holdingOf (b .state) t .live .last
         → sectionAt co (boxAfter co b section .store) (liveAt co (boxAfter co b section .state) t n) ≡ sectionAt co (b .store) (liveAt co (b .state) t n)
     -- of a fresh box, with any store, the places of what is live or held read as they should
     pub live-reads : (start : S) (store : List ℕ) → ((t : T) → holdingOf start t ≡ freshHolding) → (sections : List (List ℕ))
         → FaithfulBox co start (run co (record { state = start; store = store }) sections)
     -- condition 3: growth, of what gathering does not look at, changes no answer and no state; nor does what stood in a fresh box's store
-    pub same-run : (bare : C → C) → Bared co bare → (b : BoxOf S) {ss gs : List (List ℕ)} → Paired co bare ss gs → (answers co b gs ≡ answers co b ss) × (run co b gs .state ≡ run co b ss .state)
+    pub same-run : (bare : C → C) → Bared co bare → (b : BoxOf S) {ss gs : List (List ℕ)} → Paired co bare (b .state) ss gs → (answers co b gs ≡ answers co b ss) × (run co b gs .state ≡ run co b ss .state)
     pub any-store : (start : S) (store other : List ℕ) → ((t : T) → holdingOf start t ≡ freshHolding) → length other ≡ length store → (sections : List (List ℕ))
         → run co (record { state = start; store = other }) sections .state ≡ run co (record { state = start; store = store }) sections .state
 
@@ -74,6 +74,6 @@ module _ {T S C : Type 0} (co : Collector T S C) where
         other-holdings = others-kept co law;
         same-sections = live-section-kept co law;
         live-reads = λ start store fresh sections. faithful-run co law start sections _ (faithful-fresh co start store fresh);
-        same-run = λ bare blind b g. let r = run-alike co bare law blind g b b (alike-itself co bare b) in (r .0, r .1 .state);
-        any-store = λ start store other fresh e sections. run-alike co (λ c. c) law (itself co) (each-itself co (λ c. c) sections) _ _ (fresh-alike co (λ c. c) start store other fresh e) .1 .state;
+        same-run = λ bare blind b g. let r = run-alike co bare law blind b b g (alike-itself co bare b) in (r .0, r .1 .state);
+        any-store = λ start store other fresh e sections. run-alike co (λ c. c) law (itself co) _ _ (each-itself co (λ c. c) start sections) (fresh-alike co (λ c. c) start store other fresh e) .1 .state;
       }

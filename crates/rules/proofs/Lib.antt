@@ -1,4 +1,5 @@
--- The theorems about the rules. To read: the three conditions, then the files that their statements use, told in words; then the laws.
+-- The theorems about the rules. To read: the three conditions; what their statements say in words stands in specs/ (Offering, OfBox, Answered, Runs)
+-- and, of reading and growth, in InParts and GrownAsking; then the laws.
 
 -- ---- the tender, sentence by sentence
 pub mod Condition1
@@ -20,7 +21,7 @@ pub mod Closing  -- the closing list
 pub mod Places  -- where in a section its parts stand
 pub mod Numbers  -- which numbers a refusal can have
 -- ---- holding and going live
-pub mod Offering  -- what an offer answers, told in words
+pub mod Offering  -- an offer answers what is told, and nothing else
 pub mod Gathers  -- all that is promised of gathering, of every lawful collector
 pub mod OfBox  -- all of the following, said of the box
 pub mod Offers  -- what an offer leaves as it was, and what its answer tells
@@ -36,10 +37,10 @@ pub mod States  -- the box is one: the tables of a state
 pub mod Held  -- the numbers held, as bits
 pub mod Store  -- places, and bytes put into them
 -- ---- from number to tuner
-pub mod Answered  -- what tuning answers, told in words
-pub mod Tunes  -- what a channel number is tuned to, told in words
+pub mod Answered  -- tuning answers what is told, and nothing else
+pub mod Tunes  -- so does a channel record, and a search
 pub mod Reach  -- no frequency outside the tuner's reach
-pub mod LivePlaces  -- refusal 16 in words
+pub mod LivePlaces  -- refusals 15 and 16, as they are told
 pub mod Lowest  -- the lowest section first
 pub mod Search  -- the one fact that the four searches share
 -- ---- growth, and other runs that come to the same

@@ -16,8 +16,9 @@ use Rattle.rules.specs.Form.{Front, Form, form}
 use Rattle.rules.specs.Section.{given, headerOf, headerBy, header, frontOf, structure, revision, Content, contentOf, content, whole, Reading, wrong, right, read, readSection, checkOf, check, askedOf, ask}
 use Rattle.rules.specs.Gathering as Gathering
 use Rattle.rules.specs.Gathering.{Outcome}
-use Rattle.rules.specs.Holding.{limitOf, storeSize, holdingOf, wellFormed, allOf, otherLast, isRepeat, goneLive, gathering, liveOrStored, heldWith, stepOf, otherMap, stepped, offeredAs, offered, Box, answerTo, box}
+use Rattle.rules.specs.Holding.{limitOf, storeSize, holdingOf, wellFormed, allOf, otherLast, isRepeat, goneLive, gathering, liveOrStored, heldWith, stepOf, otherMap, readFor, stepped, offeredAs, offered, Box, answerTo, box}
 use Rattle.rules.specs.Tuning.{Plant, plant, found, hidden, tuneSignal, tuneKhz, tuneCarrier, tuneChannel, lookUp, tune}
+use Rattle.rules.specs.Said.{OfSection, OfOffer, OfTuning}
 use Rattle.rules.specs.declared.Channel.{Channel}
 use Rattle.rules.specs.declared.Signal.{Signal}
 use Rattle.rules.specs.declared.Signal.the-variants as Signal
@@ -25,7 +26,6 @@ use Rattle.rules.specs.declared.Holding.{Holding}
 use Rattle.rules.specs.declared.Revision.{Revision}
 use Rattle.rules.specs.declared.State.{State}
 use Rattle.rules.specs.declared.Stepped.{Stepped}
-use Rattle.rules.specs.declared.Offered.{Offered}
 use Rattle.rules.specs.declared.Answer.{Answer}
 use Rattle.rules.specs.declared.Answer.the-variants.{Refused, OtherMap, Repeat, Stored, Live}
 use Rattle.rules.specs.declared.Asked.{Asked}
@@ -36,9 +36,6 @@ use Rattle.rules.proofs.Asking.{first-answers}
 use Rattle.rules.proofs.Reach.{needs-so}
 
 -- ---- a section: 3 to 11
-
-abbrev pub OfSection : ℕ → Type 0
-OfSection n = (3 ≤ n) × (n ≤ 11)
 
 -- what is refused is refused by one of them
 abbrev ByNumber : {A : Type 0} → Got A → Type 0
@@ -177,9 +174,6 @@ ask-number tag s n e = go (readSection s) refl e
 
 -- ---- an offer: 1, 2, those of a section, 12 and 13
 
-abbrev pub OfOffer : ℕ → Type 0
-OfOffer n = (1 ≤ n) × (n ≤ 13)
-
 abbrev Answers : Answer → Type 0
 Answers (Refused n) = OfOffer n
 Answers OtherMap = Unit {0}
@@ -199,8 +193,8 @@ step-number limit h r = go (leb limit (r .last)) (otherLast h r) (isRepeat h r) 
     go false false false true = tt
     go false false false false = tt
 
-offered-as-number : (s : State) (section : List ℕ) (r : Reading) → readSection section ≡ r → Answers (offeredAs s r .answer)
-unfolding Gathering.offeredAs Gathering.stepped
+offered-as-number : (s : State) (section : List ℕ) (r : Reading) → readFor s section ≡ r → Answers (offeredAs s r .answer)
+unfolding Gathering.offeredAs Gathering.stepped readFor
 offered-as-number s section (wrong n) e = let low = read-number section n e in (omega (arith, low .0), omega (arith, low .1))
 offered-as-number s section (right c) e = go (otherMap s c)
   where
@@ -208,23 +202,20 @@ offered-as-number s section (right c) e = go (otherMap s c)
     go true = tt
     go false = step-number (limitOf s) (holdingOf s (c .table)) (c .revision)
 
-offered-number : (s : State) (size : ℕ) (section : List ℕ) → Answers (offered s size section .answer)
+offered-number : (s : State) (store section : List ℕ) → Answers (offered s store section .answer)
 unfolding Gathering.offered
-offered-number s size section = go (ltb size (storeSize (limitOf s))) (wellFormed s)
+offered-number s store section = go (ltb (length store) (storeSize (limitOf s))) (wellFormed s)
   where
-    go : (a b : Bool) → Answers (cond {A = Outcome State} a (record { answer = Refused 1; state = s }) (cond (not b) (record { answer = Refused 2; state = s }) (Gathering.offeredAs box s (readSection section))) .answer)
+    go : (a b : Bool) → Answers (cond {A = Outcome State} a (record { answer = Refused 1; state = s }) (cond (not b) (record { answer = Refused 2; state = s }) (Gathering.offeredAs box s (readFor s section))) .answer)
     go true b = (omega arith, omega arith)
     go false false = (omega arith, omega arith)
-    go false true = offered-as-number s section (readSection section) refl
+    go false true = offered-as-number s section (readFor s section) refl
 
 pub offer-number : (b : Box) (section : List ℕ) (n : ℕ) → answerTo b section ≡ Refused n → OfOffer n
 unfolding Gathering.answerTo
-offer-number b section n e = subst Answers e (offered-number (b .state) (length (b .store)) section)
+offer-number b section n e = subst Answers e (offered-number (b .state) (b .store) section)
 
 -- ---- tuning: 1, 2, and 14 to 21
-
-abbrev pub OfTuning : ℕ → Type 0
-OfTuning n = ((1 ≤ n) × (n ≤ 2)) ⊎ ((14 ≤ n) × (n ≤ 21))
 
 abbrev Tunings : Tuned → Type 0
 Tunings (Tuned.Refused n) = OfTuning n

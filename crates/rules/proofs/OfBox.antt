@@ -1,51 +1,33 @@
 -- What holds of every lawful collector, said of the box: each line is an instance. The collector is `box`, its laws are `lawful`.
 use Prim.Native.Nat.{ℕ, _+_, _-_, _<_, _≤_}
 use native.Mathlib.Omega.{arith}
-use mathlib.Core.Path.{_≡_, refl, ap, _∙_}
-use mathlib.Core.Bool.{Bool, true, false, cond, not}
+use mathlib.Core.Path.{_≡_, ap, _∙_}
+use mathlib.Core.Bool.{true, false, cond}
 use mathlib.Core.List.{List, _∷_}
 use lib.Dec.{eqb}
-use lib.ListN.{length, take}
-use borrow.Author.Tests.{eqb-true, eqb-false, eq-eqb, ne-eqb, not-true}
-use Rattle.rules.specs.Bytes.{from}
-use Rattle.rules.specs.Section.{Content, mapOf, right, readSection}
+use borrow.Author.Tests.{eqb-true, eq-eqb}
+use Rattle.rules.specs.Section.{Content, right}
 use Rattle.rules.specs.Gathering as Gathering
-use Rattle.rules.specs.Holding.{limitOf, indexOf, placeOf, sectionAt, holdingOf, liveAt, gatheredAt, freshHolding, fresh, stepOf, hasMap, notOurs, otherMap, takesIn, Box, answerTo, boxAfter, run, box}
-use Rattle.rules.specs.Tuning.{tableLive, allLive, liveCount, liveReading, isSection, readsAs, placeReads, tableReads, allRead}
+use Rattle.rules.specs.Holding.{limitOf, indexOf, sectionAt, holdingOf, liveAt, gatheredAt, fresh, stepOf, readFor, takesIn, Box, answerTo, boxAfter, run, box}
+use Rattle.rules.specs.Offering.{goesLive, SameLive, Sound}
+use Rattle.rules.specs.OfBox.{Passed, NotOf, TakenIn, NowLive, NowHeld, OtherMapped, Offering, Wanted, NoneOther, Promised}
+use Rattle.rules.specs.Tuning.{tuned, tableLive, allLive, liveCount, liveReading, isSection, readsAs, placeReads, tableReads, allRead}
 use Rattle.rules.specs.declared.Table.{Table}
-use Rattle.rules.specs.declared.Table.the-variants.{Cds, Mms, Vcm, Dcm}
 use Rattle.rules.specs.declared.State.{State}
 use Rattle.rules.specs.declared.Revision.{Revision}
 use Rattle.rules.specs.declared.Answer.{Answer}
 use Rattle.rules.specs.declared.Answer.the-variants.{Refused, Stored, Live}
-use Rattle.rules.proofs.Taken.{both-left, both-right}
-use Rattle.rules.proofs.Steps.{Sound, goesLive, SameLive}
-use Rattle.rules.proofs.States.{lawful}
+use Rattle.rules.proofs.States.{each-at, each-so, lawful, all-fresh}
 use Rattle.rules.proofs.Offers as Offers
 use Rattle.rules.proofs.Offering as Telling
 use Rattle.rules.proofs.Placed as Placed
 use Rattle.rules.proofs.GoingLive as GoingLive
 use Rattle.rules.proofs.Faithful as Faithful
-use Rattle.rules.proofs.LivePlaces.{every-so, four-so, four-at}
+use Rattle.rules.proofs.LivePlaces.{every-so, mapped-says, mapped-so}
 
 -- ---- an offer
 
-abbrev pub Passed : State → (size : ℕ) → (section : List ℕ) → Content → Type 0
-Passed = Offers.Passed box
-
-abbrev pub NotOf : Table → (section : List ℕ) → Type 0
-NotOf = Offers.NotOf box
-
-abbrev pub TakenIn : Box → (section : List ℕ) → Content → Type 0
-TakenIn = Offers.TakenIn box
-
-abbrev pub NowLive : Box → (section : List ℕ) → (v : ℕ) → Type 0
-NowLive = Offers.NowLive box
-
-abbrev pub NowHeld : Box → (section : List ℕ) → (missing : ℕ) → Type 0
-NowHeld = Offers.NowHeld box
-
-pub passed-sound : (s : State) (size : ℕ) (section : List ℕ) (c : Content) → Passed s size section c → Sound (holdingOf s (c .table)) (c .revision) (limitOf s)
+pub passed-sound : (s : State) (store section : List ℕ) (c : Content) → Passed s store section c → Sound (holdingOf s (c .table)) (c .revision) (limitOf s)
 passed-sound = Offers.passed-sound box lawful
 
 module _ (b : Box) (section : List ℕ) where
@@ -58,13 +40,13 @@ module _ (b : Box) (section : List ℕ) where
   pub refused-leaves : (n : ℕ) → answerTo b section ≡ Refused n → boxAfter b section ≡ b
   refused-leaves = Offers.refused-leaves box lawful b section
 
-  pub others-kept : (t : Table) → NotOf t section → holdingOf (boxAfter b section .state) t ≡ holdingOf (b .state) t
+  pub others-kept : (t : Table) → NotOf (b .state) t section → holdingOf (boxAfter b section .state) t ≡ holdingOf (b .state) t
   others-kept = Offers.others-kept box lawful b section
 
   pub live-kept : goesLive (answerTo b section) ≡ false → (t : Table) → SameLive (holdingOf (boxAfter b section .state) t) (holdingOf (b .state) t)
   live-kept = Offers.live-kept box lawful b section
 
-  pub step-answers : (c : Content) → Passed (b .state) (length (b .store)) section c → answerTo b section ≡ stepOf (limitOf (b .state)) (holdingOf (b .state) (c .table)) (c .revision) .answer
+  pub step-answers : (c : Content) → Passed (b .state) (b .store) section c → answerTo b section ≡ stepOf (limitOf (b .state)) (holdingOf (b .state) (c .table)) (c .revision) .answer
   step-answers = Offers.step-answers box lawful b section
 
   pub went-live : (v : ℕ) → answerTo b section ≡ Live v → NowLive b section v
@@ -78,23 +60,8 @@ module _ (b : Box) (section : List ℕ) where
 
 -- ---- what it answers, told in words
 
-abbrev pub New : Box → (section : List ℕ) → Content → Type 0
-New = Telling.New box
-
--- step 1: 0xC4 with another map number
-abbrev pub OtherMapped : State → Content → Type 0
-OtherMapped s c = (hasMap (c .table) ≡ true) × (mapOf c ≡ s .map → ⊥)
-
 told-mapped : Telling.Told box OtherMapped
-unfolding otherMap notOurs
-told-mapped =
-    record {
-      says = λ s c e. (both-left _ (not (eqb (mapOf c) (s .map))) e, eqb-false (mapOf c) (s .map) (not-true _ (both-right (hasMap (c .table)) _ e)));
-      so = λ s c a. simp (a .0, ne-eqb (mapOf c) (s .map) (a .1));
-    }
-
-abbrev pub Offering : Box → (section : List ℕ) → Answer → Type 0
-Offering = Telling.Offering box OtherMapped
+told-mapped = record { says = mapped-says; so = mapped-so }
 
 pub offering-only : (b : Box) (section : List ℕ) (a : Answer) → Offering b section a → a ≡ answerTo b section
 offering-only = Telling.offering-only box lawful OtherMapped told-mapped
@@ -111,29 +78,11 @@ pub held-stays : (b : Box) (x : List ℕ) (t : Table) (n : ℕ) → n < limitOf 
     → sectionAt (boxAfter b x .store) (gatheredAt (b .state) t n) ≡ sectionAt (b .store) (gatheredAt (b .state) t n)
 held-stays = Placed.held-stays box lawful
 
-pub live-sections : (b : Box) (x : List ℕ) (v : ℕ) → answerTo b x ≡ Live v → (c : Content) → readSection x ≡ right c → (n : ℕ) → n ≤ c .revision .last
+pub live-sections : (b : Box) (x : List ℕ) (v : ℕ) → answerTo b x ≡ Live v → (c : Content) → readFor (b .state) x ≡ right c → (n : ℕ) → n ≤ c .revision .last
     → sectionAt (boxAfter b x .store) (liveAt (boxAfter b x .state) (c .table) n) ≡ cond (eqb (c .revision .number) n) x (sectionAt (b .store) (gatheredAt (b .state) (c .table) n))
 live-sections = Placed.live-sections box lawful
 
 -- ---- the promise of going live
-
-abbrev pub Checked : Box → Type 0
-Checked = GoingLive.Checked box
-
-abbrev pub Wanted : State → Table → (v last n : ℕ) → (section : List ℕ) → Type 0
-Wanted = GoingLive.Wanted box
-
-abbrev pub Among : State → Table → (v last n : ℕ) → (sections : List (List ℕ)) → Type 0
-Among = GoingLive.Among box
-
-abbrev pub NoOther : State → Table → (v last : ℕ) → (section : List ℕ) → Type 0
-NoOther = GoingLive.NoOther box
-
-abbrev pub NoneOther : State → Table → (v last : ℕ) → (sections : List (List ℕ)) → Type 0
-NoneOther = GoingLive.NoneOther box
-
-abbrev pub Promised : Box → Table → (v last : ℕ) → (sections : List (List ℕ)) → Type 0
-Promised = GoingLive.Promised box
 
 pub goes-live : (b : Box) (t : Table) (v last n : ℕ) (x : List ℕ) (xs : List (List ℕ)) → Promised b t v last (x ∷ xs) → Wanted (b .state) t v last n x
     → NoneOther (b .state) t v last xs → holdingOf (run b (x ∷ xs) .state) t .live ≡ record { present = 1; version = v; last = last }
@@ -143,13 +92,6 @@ goes-live = GoingLive.goes-live box lawful
 
 abbrev pub FaithfulBox : State → Box → Type 0
 FaithfulBox = Faithful.FaithfulBox box
-
-pub all-fresh : (map : ℕ) (t : Table) → holdingOf (fresh map) t ≡ freshHolding
-unfolding fresh
-all-fresh map Cds = refl
-all-fresh map Mms = refl
-all-fresh map Vcm = refl
-all-fresh map Dcm = refl
 
 pub faithful-run : (map : ℕ) (store : List ℕ) (sections : List (List ℕ)) → FaithfulBox (fresh map) (run (record { state = fresh map; store = store }) sections)
 faithful-run map store sections =
@@ -161,13 +103,12 @@ faithful-run map store sections =
 module _ (start : State) (b : Box) (f : FaithfulBox start b) (t : Table) where
   place-reads : (n : ℕ) → Wanted start t (holdingOf (b .state) t .live .version) (holdingOf (b .state) t .live .last) n (sectionAt (b .store) (liveAt (b .state) t n))
       → placeReads (b .state) (b .store) t n ≡ true
-  unfolding placeReads liveReading readsAs isSection otherMap
+  unfolding placeReads liveReading readsAs isSection
   place-reads n w =
-      let ours : otherMap (b .state) (w .content) ≡ false = f .aside (w .content) ∙ w .ours in
       simp (
-        w .reads,
+        f .reads (sectionAt (b .store) (liveAt (b .state) t n)) ∙ w .reads,
         eq-eqb (indexOf (w .content .table)) (indexOf t) (ap indexOf (w .table)),
-        ours,
+        f .aside (w .content) ∙ w .ours,
         eq-eqb (w .content .revision .version) (holdingOf (b .state) t .live .version) (ap (λ (r : Revision). r .version) (w .revision)),
         eq-eqb (w .content .revision .number) n (ap (λ (r : Revision). r .number) (w .revision)),
         eq-eqb (w .content .revision .last) (holdingOf (b .state) t .live .last) (ap (λ (r : Revision). r .last) (w .revision)),
@@ -180,10 +121,10 @@ module _ (start : State) (b : Box) (f : FaithfulBox start b) (t : Table) where
       every-so (holdingOf (b .state) t .live .last + 1) (placeReads (b .state) (b .store) t)
       (λ n lt. place-reads n (f .tables t .live (eqb-true (holdingOf (b .state) t .live .present) 1 e) n (omega arith)))
 
--- all four
+-- all that tuning needs
 pub all-read : (start : State) (b : Box) → FaithfulBox start b → allLive (b .state) ≡ true → allRead (b .state) (b .store) ≡ true
 unfolding allLive allRead
-all-read start b f e = four-so (tableReads (b .state) (b .store)) (λ t. table-reads start b f t (four-at (tableLive (b .state)) e t))
+all-read start b f e = each-so tuned (tableReads (b .state) (b .store)) (λ t h. table-reads start b f t (each-at tuned (tableLive (b .state)) e t h))
 
 -- whatever stood in the store and whatever is offered to a fresh box: once all tables are live, check 16 passes
 pub run-reads : (map : ℕ) (store : List ℕ) (sections : List (List ℕ)) → allLive (run (record { state = fresh map; store = store }) sections .state) ≡ true

@@ -10,11 +10,11 @@ use lib.ListN.{length, replicate}
 use Rattle.rules.specs.Layout.{Numbered}
 use Rattle.rules.specs.Tables.{carriersOf, modeOf, channelOf, rangeOf}
 use Rattle.rules.specs.Section.{check, ask, partOf}
-use Rattle.rules.specs.Holding.{noneLive, noneGathered, freshHolding, fresh, liveFormed, gatheredFormed, placeOf, storeSize, stepOf, offered, gatheredAt}
+use Rattle.rules.specs.Holding.{tables, noneLive, noneGathered, freshHolding, fresh, with, liveFormed, gatheredFormed, placeOf, storeSize, stepOf, offered, gatheredAt}
 use Rattle.rules.specs.Search.{sections}
 use Rattle.rules.specs.Tuning.{Plant, lookUp, tune}
 use Rattle.rules.specs.Lineup.{text, sectionsOf, refusals, channelLine, lineup}
-use Rattle.rules.specs.declared.Table.the-variants.{Cds, Mms, Vcm, Dcm}
+use Rattle.rules.specs.declared.Table.the-variants.{Cds}
 use Rattle.rules.specs.declared.Holding.{Holding}
 use Rattle.rules.specs.declared.Answer.the-variants.{Refused, OtherMap, Repeat, Stored}
 use Rattle.rules.specs.declared.Asked.the-variants as Asked
@@ -120,17 +120,17 @@ pub record Readings : Type 0 where
   -- B1: only answers with a number are counted as refused
   pub b1 : refusals (OtherMap ∷ Repeat ∷ Refused 3 ∷ []) ≡ 1
   -- B2: a section of another map is other map, whatever its last
-  pub b2 : offered (fresh 0) 32768 (hex "C4 30 14 00 00 00 01 00 00 00 00 00 00 00 93 03 E5 00 09 9A DA AE 56") .answer ≡ OtherMap
+  pub b2 : offered (fresh 0) (replicate 32768 0) (hex "C4 30 14 00 00 00 01 00 00 00 00 00 00 00 93 03 E5 00 09 9A DA AE 56") .answer ≡ OtherMap
   -- B3: and refused where it does not read right
-  pub b3 : offered (fresh 0) 32768 (hex "C4 30 14 00 00 00 01 00 00 00 00 00 00 00 93 03 E5 02 01 1C 20 DD E1") .answer ≡ Refused 11
+  pub b3 : offered (fresh 0) (replicate 32768 0) (hex "C4 30 14 00 00 00 01 00 00 00 00 00 00 00 93 03 E5 02 01 1C 20 DD E1") .answer ≡ Refused 11
   -- B8: the half set is used as it stands where nothing is live
-  pub b8 : gatheredAt (record { map = 0; cds = record { live = noneLive; gathered = noneGathered; half = 0 }; mms = freshHolding; vcm = freshHolding; dcm = freshHolding }) Cds 0 ≡ 4096
+  pub b8 : gatheredAt (with (fresh 0) Cds (record { live = noneLive; gathered = noneGathered; half = 0 })) Cds 0 ≡ 4096
   -- B9: nothing live, and a last that is not zero
   pub b9 : liveFormed 4 (record { present = 0; version = 0; last = 1 }) ≡ false
   -- B10: held numbers beyond last
   pub b10 : gatheredFormed 4 (record { present = 1; version = 5; last = 1; held = 0x11 }) ≡ false
   -- the store: 32 places of 1,024 bytes, tables in the order CDS, MMS, VCM, DCM, half 0 then half 1
-  pub places : map (λ t. placeOf 4 t 1 3) (Cds ∷ Mms ∷ Vcm ∷ Dcm ∷ []) ≡ 7 * 1024 ∷ 15 * 1024 ∷ 23 * 1024 ∷ 31 * 1024 ∷ []
+  pub places : map (λ t. placeOf 4 t 1 3) tables ≡ 7 * 1024 ∷ 15 * 1024 ∷ 23 * 1024 ∷ 31 * 1024 ∷ []
   pub places-all : storeSize 4 ≡ 32768
   -- last + 1 less those held: of 0 to 3 first 2, then 0, then 3
   pub missing : stepOf 4 freshHolding (record { version = 5; number = 2; last = 3 }) ≡ record { answer = Stored 3; holding = holding5 0x04 }
@@ -151,7 +151,7 @@ pub record Readings : Type 0 where
   -- T10: programme 0 tunes
   pub t10 : lookUp (plantOf c1 (channel "00 03 00 12 34 02 00 00 01") (range 3 "81")) 3 ≡ Tuned.Digital 0 0 63000 0 c12
   -- T11: without the modes no channel is looked up, of whatever kind
-  pub t11 : tune (record { map = 0; cds = live5; mms = freshHolding; vcm = live5; dcm = live5 }) (replicate 32768 0) 8 ≡ Tuned.Refused 15
+  pub t11 : tune (record { tables = record { cds = live5; mms = freshHolding; vcm = live5; dcm = live5 }; settings = record { map = 0 } }) (replicate 32768 0) 8 ≡ Tuned.Refused 15
   -- T16: a frequency out of range comes before a mode that is missing
   pub t16 : lookUp (plantOf (carrier 2 "01 00 00 15 17") (channel "00 03 00 12 34 02 00 03 00") (range 3 "81")) 3 ≡ Tuned.Refused 20
   -- T17: a fresh box answers 14 before 15

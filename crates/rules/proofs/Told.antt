@@ -20,9 +20,9 @@ pub ask-told : (tag : ℕ) (s : List ℕ) {r : Asked} → r ≡ ask tag s → (r
 unfolding askSaid
 ask-told tag s e = (e, ap askedSaid e)
 
-pub offer-told : (s : State) (size : ℕ) (section : List ℕ) {x : Offered} → x ≡ offered s size section → answerSaid (x .answer) ≡ offerSaid s size section
+pub offer-told : (s : State) (store section : List ℕ) {x : Offered} → x ≡ offered s store section → answerSaid (x .answer) ≡ offerSaid s store section
 unfolding offerSaid
-offer-told s size section e = ap (λ (o : Offered). answerSaid (o .answer)) e
+offer-told s store section e = ap (λ (o : Offered). answerSaid (o .answer)) e
 
 pub tune-told : (s : State) (store : List ℕ) (number : ℕ) {t : Tuned} → t ≡ tune s store number → (t ≡ tune s store number) × (tunedSaid t ≡ tuneSaid s store number)
 unfolding tuneSaid

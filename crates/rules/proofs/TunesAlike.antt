@@ -2,20 +2,21 @@
 use Prim.Native.Nat.{ℕ, zero, suc, _<_}
 use native.Mathlib.Omega.{arith}
 use mathlib.Core.Path.{_≡_, refl}
-use mathlib.Core.Bool.{Bool, true, false, _&&_}
+use mathlib.Core.Bool.{Bool, true, false}
 use mathlib.Core.Logic.{inl}
 use mathlib.Core.List.{List, []}
 use lib.ListN.{length}
 use lib.Dec.{leb}
-use Rattle.rules.specs.Section.{Structure, Content, Reading, wrong, right, readSection}
+use Rattle.rules.specs.Section.{Structure, Content, Reading, wrong, right}
 use Rattle.rules.specs.Gathering as Gathering
-use Rattle.rules.specs.Holding.{limitOf, sectionAt, storeSize, holdingOf, liveAt, wellFormed, otherMap, Box, box}
-use Rattle.rules.specs.Tuning.{allLive, liveCount, liveReading, readsAs, every, placeReads, tableReads, allRead, carriersIn, modesIn, channelsIn, rangesIn, recordsIn, liveSection, liveRecords, plant, needs, lookUp, tune}
+use Rattle.rules.specs.Holding.{limitOf, listed, readFor, sectionAt, storeSize, holdingOf, liveAt, wellFormed, otherMap, Box, box}
+use Rattle.rules.specs.Tuning.{tuned, allLive, liveCount, liveReading, readsAs, every, placeReads, tableReads, allRead, carriersIn, modesIn, channelsIn, rangesIn, recordsIn, liveSection, liveRecords, plant, needs, lookUp, tune}
 use Rattle.rules.specs.Growth.{Grown}
 use Rattle.rules.specs.declared.Table.{Table}
 use Rattle.rules.specs.declared.Table.the-variants.{Cds, Mms, Vcm, Dcm}
 use Rattle.rules.specs.declared.State.{State}
 use Rattle.rules.proofs.LiveRecords.{same-sections}
+use Rattle.rules.proofs.States.{each-same}
 use Rattle.rules.proofs.LivePlaces.{live-says}
 use Rattle.rules.proofs.Grown.{withClosing, grown-reads}
 use Rattle.rules.proofs.Alike.{plain, Bared, by-plain}
@@ -29,19 +30,19 @@ pub bared : Bared box bare
 unfolding otherMap
 bared = record { table = λ c. refl; revision = λ c. refl; aside = λ s c. refl; word = λ s c. refl }
 
-abbrev pub SaySame : (s g : List ℕ) → Type 0
+abbrev pub SaySame : State → (x y : List ℕ) → Type 0
 SaySame = Alikes.SaySame box bare
 
 abbrev pub Alike : (b c : Box) → Type 0
 Alike = Alikes.Alike box bare
 
 -- a section that has grown says the same
-pub grown-says : (s g : List ℕ) → Grown s g → SaySame s g
-unfolding plain
-grown-says s g w = record { same = rw (grown-reads s g w, w .reads) refl }
+pub grown-says : (u : State) (s g : List ℕ) → Grown s g → SaySame u s g
+unfolding plain readFor
+grown-says u s g w = record { same = rw (grown-reads s g w, w .reads) refl }
 
 reads-bare : (s : State) (t : Table) (n : ℕ) (r : Reading) → readsAs s t n (plain bare r) ≡ readsAs s t n r
-unfolding readsAs plain
+unfolding readsAs plain otherMap
 reads-bare s t n (wrong k) = refl
 reads-bare s t n (right c) = refl
 
@@ -60,25 +61,25 @@ module _ (b c : Box) (a : Alike b c) where
   s = b .state
 
   module _ (live : allLive s ≡ true) where
-    live-alike : (t : Table) (n : ℕ) → n < liveCount s t → SaySame (sectionAt (b .store) (liveAt s t n)) (sectionAt (c .store) (liveAt s t n))
+    live-alike : (t : Table) → listed tuned t ≡ true → (n : ℕ) → n < liveCount s t → SaySame s (sectionAt (b .store) (liveAt s t n)) (sectionAt (c .store) (liveAt s t n))
     unfolding liveCount Gathering.liveAt
-    live-alike t n lt = a .places t (holdingOf s t .half) n (inl (live-says s live .live t, refl, omega arith))
+    live-alike t h n lt = a .places t (holdingOf s t .half) n (inl (live-says s live .live t h, refl, omega arith))
 
-    table-alike : (t : Table) → tableReads s (c .store) t ≡ tableReads s (b .store) t
+    table-alike : (t : Table) → listed tuned t ≡ true → tableReads s (c .store) t ≡ tableReads s (b .store) t
     unfolding tableReads placeReads liveReading
-    table-alike t = every-same (liveCount s t) _ _ (λ n lt. by-plain box bare (readsAs s t n) (reads-bare s t n) (live-alike t n lt))
+    table-alike t h = every-same (liveCount s t) _ _ (λ n lt. by-plain box bare (readsAs s t n) (reads-bare s t n) (live-alike t h n lt))
 
-    records-alike : {R : Type 0} (records : Structure → List R) (t : Table) → liveRecords records s (c .store) t ≡ liveRecords records s (b .store) t
+    records-alike : {R : Type 0} (records : Structure → List R) (t : Table) → listed tuned t ≡ true → liveRecords records s (c .store) t ≡ liveRecords records s (b .store) t
     unfolding liveRecords liveSection liveReading
-    records-alike records t = same-sections _ _ (liveCount s t) 0 (λ n lt. by-plain box bare (recordsIn records) (records-bare records) (live-alike t n (omega arith)))
+    records-alike records t h = same-sections _ _ (liveCount s t) 0 (λ n lt. by-plain box bare (recordsIn records) (records-bare records) (live-alike t h n (omega arith)))
 
     read-alike : allRead s (c .store) ≡ allRead s (b .store)
     unfolding allRead
-    read-alike = rw (table-alike Cds, table-alike Mms, table-alike Vcm, table-alike Dcm) refl
+    read-alike = each-same tuned (tableReads s (c .store)) (tableReads s (b .store)) table-alike
 
     plant-alike : plant s (c .store) ≡ plant s (b .store)
     unfolding plant
-    plant-alike = rw (records-alike carriersIn Cds, records-alike modesIn Mms, records-alike channelsIn Vcm, records-alike rangesIn Dcm) refl
+    plant-alike = rw (records-alike carriersIn Cds refl, records-alike modesIn Mms refl, records-alike channelsIn Vcm refl, records-alike rangesIn Dcm refl) refl
 
   pub tune-alike : (number : ℕ) → tune (c .state) (c .store) number ≡ tune s (b .store) number
   unfolding tune needs

@@ -3,6 +3,7 @@
 use Prim.Native.Nat.{ℕ, _+_, _-_, _*_}
 use mathlib.Core.Bool.{Bool, cond, not}
 use mathlib.Core.List.{List, [], _∷_, _++_}
+use mathlib.Core.Option.{Option, none, some}
 use lib.ListN.{length, take, drop}
 use lib.Dec.{ltb}
 use Rattle.rules.specs.Bytes.{from}
@@ -25,8 +26,8 @@ pub record Collector (T S C : Type 0) : Type 0 where
   pub with : S → T → Holding → S
   pub limit : S → ℕ
   pub formed : S → Bool
-  -- a section: its refusal or its content, of which table and revision it is
-  pub read : List ℕ → ReadingOf C
+  -- a section: its refusal or its content, as a box of that state reads it; of which table and revision it is
+  pub read : S → (section : List ℕ) → ReadingOf C
   pub table : C → T
   pub revision : C → Revision
   -- step 1: whether a section that reads right is set aside, and the word that is answered then
@@ -84,12 +85,20 @@ module _ {T S C : Type 0} (k : Collector T S C) where
       cond (k .aside s c) (record { answer = k .word s c; state = s })
       (stepped s (k .table c) (stepOf (k .limit s) (k .holding s (k .table c)) (k .revision c)))
 
-  -- refusals 1 and 2 come first; `size` is the length of the store
-  unfoldable pub offered : S → (size : ℕ) → (section : List ℕ) → Outcome S
-  offered s size section =
-      cond (ltb size (storeSize (k .limit s))) (record { answer = Refused 1; state = s })
+  -- refusals 1 and 2 come first
+  unfoldable pub offered : S → (store section : List ℕ) → Outcome S
+  offered s store section =
+      cond (ltb (length store) (storeSize (k .limit s))) (record { answer = Refused 1; state = s })
       (cond (not (k .formed s)) (record { answer = Refused 2; state = s })
-      (offeredAs s (k .read section)))
+      (offeredAs s (k .read s section)))
+
+  -- whose table a section touches, if it touches one: none where it does not read right or is set aside
+  unfoldable pub touchedBy : S → ReadingOf C → Option T
+  touchedBy s (wrong n) = none
+  touchedBy s (right c) = cond (k .aside s c) none (some (k .table c))
+
+  unfoldable pub touches : S → (section : List ℕ) → Option T
+  touches s section = touchedBy s (k .read s section)
 
   -- ---- an offer: the store after it
 
@@ -98,19 +107,19 @@ module _ {T S C : Type 0} (k : Collector T S C) where
   putAs s store section (right c) = put store (gatheredAt s (k .table c) (k .revision c .number)) section
 
   -- "Steps 5 and 6 put the section's bytes at the front of its place"
-  unfoldable pub storeAfter : S → List ℕ → (section : List ℕ) → List ℕ
+  unfoldable pub storeAfter : S → (store section : List ℕ) → List ℕ
   storeAfter s store section =
-      cond (takesIn (offered s (length store) section .answer)) (putAs s store section (k .read section)) store
+      cond (takesIn (offered s store section .answer)) (putAs s store section (k .read s section)) store
 
   -- ---- a run of offers to one box
 
   unfoldable pub answerTo : BoxOf S → (section : List ℕ) → Answer
-  answerTo b section = offered (b .state) (length (b .store)) section .answer
+  answerTo b section = offered (b .state) (b .store) section .answer
 
   unfoldable pub boxAfter : BoxOf S → (section : List ℕ) → BoxOf S
   boxAfter b section =
       record {
-        state = offered (b .state) (length (b .store)) section .state;
+        state = offered (b .state) (b .store) section .state;
         store = storeAfter (b .state) (b .store) section;
       }
 

@@ -10,8 +10,12 @@ pub mod Parts
 pub mod InParts
 pub mod Steps
 pub mod Gathering
+pub mod Offering
 pub mod Holding
+pub mod OfBox
 pub mod Tuning
+pub mod Answered
+pub mod Runs
 pub mod Said
 pub mod Lineup
 pub mod Feeding

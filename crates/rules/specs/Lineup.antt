@@ -76,10 +76,10 @@ version l = cond (eqb (l .present) 1) (decimal (l .version)) (text "none")
 -- live version or none, of each table
 unfoldable pub versionLines : State → List ℕ
 versionLines s =
-    line "cds=" (version (s .cds .live))
-    ++ line "mms=" (version (s .mms .live))
-    ++ line "vcm=" (version (s .vcm .live))
-    ++ line "dcm=" (version (s .dcm .live))
+    line "cds=" (version (s .tables .cds .live))
+    ++ line "mms=" (version (s .tables .mms .live))
+    ++ line "vcm=" (version (s .tables .vcm .live))
+    ++ line "dcm=" (version (s .tables .dcm .live))
 
 -- what the lines of the three kinds have in front, and what a digital one has behind
 unfoldable pub front : (number : ℕ) → (kind : String) → (hidden path : ℕ) → List ℕ
@@ -122,7 +122,7 @@ channelLines tuned (suc n) number = channelLine number (tuned number) ++ channel
 unfoldable pub heading : State → (sections refused channels : ℕ) → List ℕ
 heading s sections refused channels =
     text "lineup=1\n"
-    ++ line "map=" (decimal (s .map))
+    ++ line "map=" (decimal (s .settings .map))
     ++ line "sections=" (decimal sections)
     ++ line "refused=" (decimal refused)
     ++ versionLines s

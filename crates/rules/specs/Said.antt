@@ -1,7 +1,8 @@
 -- Document 01, "Expected form in each place": "An answer may be an enum. In that case, a definition gives this paper's number and values for
 -- each of the enum's cases, and the promises use that definition." The four enums that an entry point answers, in the paper's terms.
-use Prim.Native.Nat.{ℕ}
+use Prim.Native.Nat.{ℕ, _≤_}
 use Prim.Native.String.{String}
+use mathlib.Core.Logic.{_⊎_}
 use mathlib.Core.List.{List, [], _∷_, _++_}
 use Rattle.rules.specs.Section.{readSection, readAs, ask}
 use Rattle.rules.specs.Holding.{indexOf, offered}
@@ -88,8 +89,22 @@ sectionSaid section = readSaid (readAs section (readSection section))
 unfoldable pub askSaid : (tag : ℕ) → (section : List ℕ) → Said
 askSaid tag section = askedSaid (ask tag section)
 
-unfoldable pub offerSaid : State → (size : ℕ) → (section : List ℕ) → Said
-offerSaid s size section = answerSaid (offered s size section .answer)
+unfoldable pub offerSaid : State → (store section : List ℕ) → Said
+offerSaid s store section = answerSaid (offered s store section .answer)
 
 unfoldable pub tuneSaid : State → (store : List ℕ) → (number : ℕ) → Said
 tuneSaid s store number = tunedSaid (tune s store number)
+
+-- ---- the numbers of refusal that each can give
+
+-- a section: 3 to 11
+abbrev pub OfSection : ℕ → Type 0
+OfSection n = (3 ≤ n) × (n ≤ 11)
+
+-- an offer: 1, 2, those of a section, 12 and 13
+abbrev pub OfOffer : ℕ → Type 0
+OfOffer n = (1 ≤ n) × (n ≤ 13)
+
+-- tuning: 1, 2, and 14 to 21
+abbrev pub OfTuning : ℕ → Type 0
+OfTuning n = ((1 ≤ n) × (n ≤ 2)) ⊎ ((14 ≤ n) × (n ≤ 21))

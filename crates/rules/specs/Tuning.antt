@@ -1,15 +1,15 @@
 -- Document 01, "From number to tuner", and of "Numbers of refusal" 14 to 21: what a channel number is tuned to.
 use Prim.Native.Nat.{ℕ, zero, suc, _+_, _-_}
 use mathlib.Core.Bool.{Bool, true, false, cond, not, _&&_}
-use mathlib.Core.List.{List, []}
+use mathlib.Core.List.{List, [], _∷_}
 use mathlib.Core.Option.{Option, none, some}
 use lib.ListN.{length}
 use lib.Dec.{leb, ltb, eqb}
 use Rattle.rules.specs.Layout.{Numbered}
 use Rattle.rules.specs.Tables.{carrierKhz}
 pub use Rattle.rules.specs.Form.{Plant}
-use Rattle.rules.specs.Section.{Structure, mapOf, Reading, wrong, right, readSection}
-use Rattle.rules.specs.Holding.{limitOf, indexOf, storeSize, sectionAt, holdingOf, liveAt, wellFormed, notOurs}
+use Rattle.rules.specs.Section.{Structure, Reading, wrong, right}
+use Rattle.rules.specs.Holding.{limitOf, isTable, each, storeSize, sectionAt, holdingOf, liveAt, wellFormed, otherMap, readFor}
 use Rattle.rules.specs.Search.{first, sections}
 use Rattle.rules.specs.declared.Table.{Table}
 use Rattle.rules.specs.declared.Table.the-variants.{Cds, Mms, Vcm, Dcm}
@@ -26,12 +26,16 @@ use Rattle.rules.specs.declared.Tuned.the-variants as Tuned
 
 -- ---- refusals 15 and 16: the live places
 
--- refusal 15, unless all four tables are live
+-- the tables that tuning needs
+abbrev pub tuned : List Table
+tuned = Cds ∷ Mms ∷ Vcm ∷ Dcm ∷ []
+
+-- refusal 15, unless each of them is live
 unfoldable pub tableLive : State → Table → Bool
 tableLive s t = eqb (holdingOf s t .live .present) 1
 
 unfoldable pub allLive : State → Bool
-allLive s = tableLive s Cds && tableLive s Mms && tableLive s Vcm && tableLive s Dcm
+allLive s = each tuned (tableLive s)
 
 -- sections 0 to last of a live table
 unfoldable pub liveCount : State → Table → ℕ
@@ -39,20 +43,20 @@ liveCount s t = holdingOf s t .live .last + 1
 
 -- what the place of section n of a live table reads as
 unfoldable pub liveReading : State → List ℕ → Table → (n : ℕ) → Reading
-liveReading s store t n = readSection (sectionAt store (liveAt s t n))
+liveReading s store t n = readFor s (sectionAt store (liveAt s t n))
 
--- refusal 16, unless each live place reads right as that table, map, version, number and last
-unfoldable pub isSection : State → Table → (n : ℕ) → (table : Table) → (map : ℕ) → Revision → Bool
-isSection s t n table map r =
-    eqb (indexOf table) (indexOf t)
-    && not (notOurs s table map)
+-- refusal 16, unless each live place reads right as that table, map, version, number and last; `aside` is another map
+unfoldable pub isSection : State → Table → (n : ℕ) → (table : Table) → (aside : Bool) → Revision → Bool
+isSection s t n table aside r =
+    isTable table t
+    && not aside
     && eqb (r .version) (holdingOf s t .live .version)
     && eqb (r .number) n
     && eqb (r .last) (holdingOf s t .live .last)
 
 unfoldable pub readsAs : State → Table → (n : ℕ) → Reading → Bool
 readsAs s t n (wrong k) = false
-readsAs s t n (right c) = isSection s t n (c .table) (mapOf c) (c .revision)
+readsAs s t n (right c) = isSection s t n (c .table) (otherMap s c) (c .revision)
 
 -- the test holds for 0 to n - 1
 unfoldable pub every : (n : ℕ) → (ℕ → Bool) → Bool
@@ -66,8 +70,7 @@ unfoldable pub tableReads : State → List ℕ → Table → Bool
 tableReads s store t = every (liveCount s t) (placeReads s store t)
 
 unfoldable pub allRead : State → List ℕ → Bool
-allRead s store =
-    tableReads s store Cds && tableReads s store Mms && tableReads s store Vcm && tableReads s store Dcm
+allRead s store = each tuned (tableReads s store)
 
 -- ---- the live records of the four tables
 

@@ -1,7 +1,7 @@
 // The shared types: what the records of the tables say, what the state holds, what the box answers.
 // They hold what document 01 names, and no function stands here: the meaning is specs/.
 
-// The four tables, in the order of their places in the store.
+// The tables, in the order of their places in the store.
 pub enum Table {
     Cds,
     Mms,
@@ -125,12 +125,23 @@ pub struct Holding {
     pub half: u8,
 }
 
-pub struct State {
+// What is given at the start and never changes: the map number.
+pub struct Settings {
     pub map: u16,
+}
+
+// What is held of each table.
+pub struct Tables {
     pub cds: Holding,
     pub mms: Holding,
     pub vcm: Holding,
     pub dcm: Holding,
+}
+
+// The tables stand first, so that each holding begins at a multiple of its size: a state is copied by value, and quickly so.
+pub struct State {
+    pub tables: Tables,
+    pub settings: Settings,
 }
 
 // ---- what the box answers

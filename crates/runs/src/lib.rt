@@ -1,8 +1,9 @@
 // For the tests alone, and no part of the box: the line-up of an input in memory, so that one start of a program prints many.
 ghost use mathlib.Core.Path.{_≡_};
 ghost use mathlib.Core.List.{[], _∷_, _++_};
-ghost use lib.ListN.{length, take, replicate};
-ghost use Rattle.rules.specs.Lineup.{lineup};
+ghost use lib.ListN.{length, take};
+ghost use Rattle.rules.specs.Bytes.{word};
+ghost use Rattle.rules.specs.Lineup.{freshBox, lineup};
 ghost use Rattle.rules.specs.Feeding.{begin, feedAll, finish};
 ghost use Rattle.stream.specs.Tallied.{intakeOf};
 ghost use Rattle.text.specs.Written.{Counts};
@@ -12,7 +13,7 @@ use stream::Tally;
 
 // What a fresh box makes of sections that come as one piece.
 fn gather(map: u16, store: &mut [u8], sections: &[u8]) -> Tally
-    requires { ⌜ now store ≡ replicate 32768 0 ⌝ }
+    requires { ⌜ now store ≡ freshBox map .store ⌝ }
     ensures { λ r. ⌜ intakeOf r (now (store .exit)) [] ≡ finish (feedAll (begin map) (now (sections .entry) ∷ [])) ⌝ }
 {
     let start = Tally {
@@ -33,7 +34,7 @@ fn line_up(
     heading: &mut [u8; 256],
     lines: &mut [u8; 1183744],
 ) -> Printed
-    requires { ⌜ now store ≡ replicate 32768 0 ⌝ }
+    requires { ⌜ now store ≡ freshBox (word 0 (now input)) .store ⌝ }
     ensures { λ r. ⌜ take (r .heading) (now (heading .exit)) ++ take (r .lines) (now (lines .exit)) ≡ lineup (now (input .entry)) ⌝ }
     ensures { λ r. ⌜ Counts (r .heading) (now (heading .exit)) ⌝ }
     ensures { λ r. ⌜ Counts (r .lines) (now (lines .exit)) ⌝ }
@@ -54,7 +55,7 @@ pub extern "C" fn trial_lineup(input: &[u8], out: &mut [u8]) -> u64
     ensures { λ r. ⌜ r ≡ lineupSize (now (input .entry)) (length (now (out .entry))) ⌝ }
     ensures { λ _. ⌜ now (out .exit) ≡ lineupIn (now (input .entry)) (now (out .entry)) ⌝ }
 {
-    let mut store = [0u8; 32768];
+    let mut store = [0u8; receiver::STORE];
     let mut heading = [0u8; 256];
     let mut lines = [0u8; printout::LINES];
     let printed = line_up(input, &mut store, &mut heading, &mut lines);

@@ -1,6 +1,7 @@
 -- The bridge from the records of a section that reads right to the walk of the searches: a live place that passed check 16 reads
 -- right as its table, so its records are those that the walk goes over. Proved once, over the table.
 use Prim.Native.Nat.{ℕ, _<_}
+use native.Mathlib.Omega.{arith}
 use mathlib.Core.Path.{_≡_, refl, sym, ap, _∙_}
 use mathlib.Core.Bool.{Bool}
 use mathlib.Core.List.{List}
@@ -10,7 +11,7 @@ use Rattle.rules.specs.Bytes.{got, from}
 use Rattle.rules.specs.Layout.{extent, taken, Layout, Numbered, records}
 use Rattle.rules.specs.Form.{Front, form}
 use Rattle.rules.specs.Section.{headerOf, Structure, frontOf, structure, Content, right, withoutCrc, readSection, recordsAt}
-use Rattle.rules.specs.Holding.{sectionAt, liveAt}
+use Rattle.rules.specs.Holding.{sectionAt, holdingOf, liveAt, readFor}
 use Rattle.rules.specs.Tuning.{liveCount, liveReading, recordsIn, liveSection}
 use Rattle.rules.specs.declared.Table.{Table}
 use Rattle.rules.specs.declared.Table.the-variants.{Cds, Mms, Vcm, Dcm}
@@ -18,10 +19,15 @@ use Rattle.rules.specs.declared.State.{State}
 use Rattle.rules.proofs.Taken.{then-got, giving-got, taken-got}
 use Rattle.rules.proofs.Places.{from-from}
 use Rattle.rules.proofs.Right.{formal, header-got, reads-right}
+use Rattle.rules.proofs.States.{limit-low}
 use Rattle.rules.proofs.LivePlaces.{table-says}
 use Rattle.rules.proofs.Search.{Before, Within, enter}
 use Rattle.search.specs.Live.{Live, RecordOf, layoutOf, recordsOf, frontAt, walkOf}
 use Rattle.search.specs.declared.Walk.{Walk}
+
+-- a byte counts the live sections
+pub few-sections : {s : State} {store : List ℕ} {t : Table} → Live s store t → holdingOf s t .live .last < 8
+few-sections {s} live = let low = limit-low s in omega (arith, live .few)
 
 -- the layout of records goes by descriptors-included alone
 layout-by : (t : Table) (y : Front) → form t .layout y ≡ layoutOf t (y .included)
@@ -70,7 +76,7 @@ pub enter-live : (s : State) (store : List ℕ) (t : Table) {test : Numbered (Re
     → b ≡ withoutCrc (sectionAt store (liveAt s t i)) → w ≡ walkOf t b → i < liveCount s t
     → Before test (liveSection (recordsOf t) s store t) (liveCount s t) i answer
     → Within (layoutOf t (w .included)) test (liveSection (recordsOf t) s store t) (liveCount s t) i (w .count) (w .index) b (w .at) answer
-unfolding liveSection liveReading
+unfolding liveSection liveReading readFor
 enter-live s store t {i = i} live b w p q h before =
     let place = table-says s store t (live .reads) i h in
     let walk = section-walk t (sectionAt store (liveAt s t i)) (place .content) (place .reads) (place .table) b w p q in

@@ -11,7 +11,7 @@ use Rattle.rules.specs.Layout.{extent, Layout, Numbered}
 use Rattle.rules.specs.Tables.{carrierKhz}
 use Rattle.rules.specs.Form.{Front, form}
 use Rattle.rules.specs.Section.{headerOf, Structure, recordsAt}
-use Rattle.rules.specs.Holding.{four, holdingOf}
+use Rattle.rules.specs.Holding.{limitOf, holdingOf}
 use Rattle.rules.specs.Tuning.{tableReads}
 use Rattle.rules.specs.declared.Table.{Table}
 use Rattle.rules.specs.declared.Carriers.{Carriers}
@@ -26,9 +26,9 @@ use Rattle.search.specs.declared.ModeFound.the-variants as mode
 use Rattle.search.specs.declared.ChannelFound.{ChannelFound}
 use Rattle.search.specs.declared.ChannelFound.the-variants as channel
 
--- what a search may rely on: the table has at most four live sections, and each reads right as its own
+-- what a search may rely on: the table has no more live sections than it may have, and each reads right as its own
 pub record Live (s : State) (store : List ℕ) (t : Table) : Type 0 where
-  pub few : holdingOf s t .live .last < four
+  pub few : holdingOf s t .live .last < limitOf s
   pub reads : tableReads s store t ≡ true
 
 -- ---- the records of a table, their layout, and where they stand in a section without its CRC

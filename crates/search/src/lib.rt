@@ -135,7 +135,7 @@ pub fn find_carrier(s: State, store: &[u8], index: u8) -> CarrierFound
     requires { ⌜ Live s (now store) table.Cds ⌝ }
     ensures { λ r. ⌜ r ≡ carrierFound index (first (isCarrier index) (liveRecords carriersIn s (now (store .entry)) table.Cds)) ⌝ }
 {
-    let sections = s.cds.live.last + 1;
+    let sections = s.tables.cds.live.last + 1;
     for i in 0..sections {
         let b = live_bytes(s, store, Table::Cds, i);
         let walk = walk_of(Table::Cds, b);
@@ -169,7 +169,7 @@ pub fn find_mode(s: State, store: &[u8], index: u8) -> ModeFound
     requires { ⌜ Live s (now store) table.Mms ⌝ }
     ensures { λ r. ⌜ r ≡ modeFound (first (isMode index) (liveRecords modesIn s (now (store .entry)) table.Mms)) ⌝ }
 {
-    let sections = s.mms.live.last + 1;
+    let sections = s.tables.mms.live.last + 1;
     for i in 0..sections {
         let b = live_bytes(s, store, Table::Mms, i);
         let walk = walk_of(Table::Mms, b);
@@ -201,7 +201,7 @@ pub fn find_channel(s: State, store: &[u8], number: u16) -> ChannelFound
     requires { ⌜ Live s (now store) table.Vcm ⌝ }
     ensures { λ r. ⌜ r ≡ channelFound (first (isChannel number) (liveRecords channelsIn s (now (store .entry)) table.Vcm)) ⌝ }
 {
-    let sections = s.vcm.live.last + 1;
+    let sections = s.tables.vcm.live.last + 1;
     for i in 0..sections {
         let b = live_bytes(s, store, Table::Vcm, i);
         let walk = walk_of(Table::Vcm, b);
@@ -227,7 +227,7 @@ pub fn is_defined(s: State, store: &[u8], number: u16) -> bool
     requires { ⌜ Live s (now store) table.Dcm ⌝ }
     ensures { λ r. ⌜ r ≡ defined (liveRecords rangesIn s (now (store .entry)) table.Dcm) number ⌝ }
 {
-    let sections = s.dcm.live.last + 1;
+    let sections = s.tables.dcm.live.last + 1;
     for i in 0..sections {
         let b = live_bytes(s, store, Table::Dcm, i);
         let walk = walk_of(Table::Dcm, b);

@@ -121,7 +121,7 @@ pub fn list_records(s: State, store: &[u8], t: Table, entries: &mut [u64])
     let h = state::holding_of(s, t);
     let sections = h.live.last + 1;
     for i in 0..sections {
-        let start = state::place_of(t, h.half, i);
+        let start = state::place_of(s, t, h.half, i);
         let b = crate::live_bytes(s, store, t, i);
         let walk = crate::walk_of(t, b);
         let mut at = walk.at;

@@ -1,39 +1,52 @@
-// What a state and the store that is lent with it are, for those who hold and those who tune: whether the state is well formed,
-// whose map a section is of, where the places are, and the section that stands in one.
+// What a state and the store that is lent with it are, for those who hold and those who tune: how many sections a table may have,
+// whether the state is well formed, whose map a section is of, where the places are, and the section that stands in one.
 ghost use mathlib.Core.Path.{_≡_};
-ghost use Rattle.rules.specs.Holding.{four, indexOf, holdingOf, placeOf, sectionAt, liveAt, wellFormed, notOurs};
+ghost use Prim.Native.Nat.{_≤_};
+ghost use Rattle.rules.specs.Holding.{limitOf, indexOf, holdingOf, placeOf, storeSize, sectionAt, liveAt, wellFormed, notOurs};
 use rules::Holding;
 use rules::State;
 use rules::Table;
 
-// Bytes of a place, and of all 32 places: 4 tables, 2 halves, 4 sections.
+// How many tables there are, and the bytes of a place.
+const TABLES: usize = 4;
+
 const PLACE: usize = 1024;
 
-pub const STORE: usize = 32768;
-
 // ---- the state
+
+// How many sections a table may have: each half has sections 0 to 3.
+pub fn limit_of(s: State) -> u8
+    ensures { λ x. ⌜ x ≡ limitOf s ⌝ }
+    ensures { λ x. ⌜ x ≤ 8 ⌝ }
+{
+    4
+}
 
 // Whether a state is well formed: else 2.
 pub fn well_formed(s: State) -> bool
     ensures { λ x. ⌜ x ≡ wellFormed s ⌝ }
 {
-    if holding::is_formed(s.cds) {
-        if holding::is_formed(s.mms) {
-            return holding::is_formed(s.vcm) && holding::is_formed(s.dcm);
-        }
+    let limit = limit_of(s);
+    if !holding::is_formed(limit, s.tables.cds) {
         return false;
     }
-    false
+    if !holding::is_formed(limit, s.tables.mms) {
+        return false;
+    }
+    if !holding::is_formed(limit, s.tables.vcm) {
+        return false;
+    }
+    holding::is_formed(limit, s.tables.dcm)
 }
 
 pub fn holding_of(s: State, t: Table) -> Holding
     ensures { λ x. ⌜ x ≡ holdingOf s t ⌝ }
 {
     match t {
-        Table::Cds => s.cds,
-        Table::Mms => s.mms,
-        Table::Vcm => s.vcm,
-        Table::Dcm => s.dcm,
+        Table::Cds => s.tables.cds,
+        Table::Mms => s.tables.mms,
+        Table::Vcm => s.tables.vcm,
+        Table::Dcm => s.tables.dcm,
     }
 }
 
@@ -44,8 +57,8 @@ pub fn is_for_other(s: State, t: Table, map: u16) -> bool
     match t {
         Table::Cds => false,
         Table::Mms => false,
-        Table::Vcm => map != s.map,
-        Table::Dcm => map != s.map,
+        Table::Vcm => map != s.settings.map,
+        Table::Dcm => map != s.settings.map,
     }
 }
 
@@ -62,11 +75,18 @@ pub fn index_of(t: Table) -> u8
     }
 }
 
-// Where the place of section n in a half of a table begins.
-pub fn place_of(t: Table, half: u8, n: u8) -> usize
-    ensures { λ x. ⌜ x ≡ placeOf four t half n ⌝ }
+// Bytes of all places: those of each table, half and section.
+pub fn store_size(s: State) -> usize
+    ensures { λ x. ⌜ x ≡ storeSize (limitOf s) ⌝ }
 {
-    ((index_of(t) as usize * 2 + half as usize) * holding::LIMIT as usize + n as usize) * PLACE
+    TABLES * 2 * limit_of(s) as usize * PLACE
+}
+
+// Where the place of section n in a half of a table begins.
+pub fn place_of(s: State, t: Table, half: u8, n: u8) -> usize
+    ensures { λ x. ⌜ x ≡ placeOf (limitOf s) t half n ⌝ }
+{
+    ((index_of(t) as usize * 2 + half as usize) * limit_of(s) as usize + n as usize) * PLACE
 }
 
 // The section in the place that begins there, as a part of the store: its first 3 + L bytes.
@@ -83,5 +103,5 @@ pub fn live_section(s: State, store: &[u8], t: Table, n: u8) -> &[u8]
     ensures { λ r. ⌜ now r ≡ sectionAt (now (store .entry)) (liveAt s t n) ⌝ }
 {
     let h = holding_of(s, t);
-    section_at(store, place_of(t, h.half, n))
+    section_at(store, place_of(s, t, h.half, n))
 }

@@ -86,10 +86,10 @@ fn put_versions(out: &mut [u8], at: usize, s: State) -> usize
     requires { ⌜ at + 100 ≤ length (now out) ⌝ }
     ensures { λ r. ⌜ (r ≤ at + 100) × Wrote (now (out .entry)) at (versionLines s) (now (out .exit)) r ⌝ }
 {
-    let cds = put_version(out, at, b"cds=", s.cds.live);
-    let mms = put_version(out, cds, b"mms=", s.mms.live);
-    let vcm = put_version(out, mms, b"vcm=", s.vcm.live);
-    put_version(out, vcm, b"dcm=", s.dcm.live)
+    let cds = put_version(out, at, b"cds=", s.tables.cds.live);
+    let mms = put_version(out, cds, b"mms=", s.tables.mms.live);
+    let vcm = put_version(out, mms, b"vcm=", s.tables.vcm.live);
+    put_version(out, vcm, b"dcm=", s.tables.dcm.live)
 }
 
 fn put_counts(out: &mut [u8], at: usize, map: u16, sections: u64, refused: u64) -> usize
@@ -107,7 +107,7 @@ pub fn heading(out: &mut [u8; 256], s: State, sections: u64, refused: u64, chann
     ensures { λ r. ⌜ Wrote (now (out .entry)) 0 (rule.heading s sections refused channels) (now (out .exit)) r ⌝ }
     ensures { λ r. ⌜ Counts r (now (out .exit)) ⌝ }
 {
-    let counts = put_counts(out, 0, s.map, sections, refused);
+    let counts = put_counts(out, 0, s.settings.map, sections, refused);
     let versions = put_versions(out, counts, s);
     put_line(out, versions, b"channels=", channels)
 }

@@ -84,7 +84,7 @@ fn main() {
         write(b"trace=refused\n");
         return;
     }
-    let mut store = [0u8; state::STORE];
+    let mut store = [0u8; receiver::STORE];
     let mut buffer = [0u8; LONGEST];
     follow(
         receiver::start(stream::map_of(&map)),

@@ -27,11 +27,8 @@ holdingFrom b at =
 unfoldable pub stateFrom : List ℕ → State
 stateFrom b =
     record {
-      map = byte 0 b + byte 1 b * 256;
-      cds = holdingFrom b 2;
-      mms = holdingFrom b 10;
-      vcm = holdingFrom b 18;
-      dcm = holdingFrom b 26;
+      tables = record { cds = holdingFrom b 2; mms = holdingFrom b 10; vcm = holdingFrom b 18; dcm = holdingFrom b 26 };
+      settings = record { map = byte 0 b + byte 1 b * 256 };
     }
 
 -- the eight bytes as one number, the first one lowest
@@ -49,11 +46,11 @@ holdingNumber h =
 -- part 0 is the map number, parts 1 to 4 are the tables; no other part is there
 unfoldable pub statePart : State → (part : ℕ) → ℕ
 statePart s part =
-    cond (eqb part 0) (s .map)
-    (cond (eqb part 1) (holdingNumber (s .cds))
-    (cond (eqb part 2) (holdingNumber (s .mms))
-    (cond (eqb part 3) (holdingNumber (s .vcm))
-    (cond (eqb part 4) (holdingNumber (s .dcm)) 0))))
+    cond (eqb part 0) (s .settings .map)
+    (cond (eqb part 1) (holdingNumber (s .tables .cds))
+    (cond (eqb part 2) (holdingNumber (s .tables .mms))
+    (cond (eqb part 3) (holdingNumber (s .tables .vcm))
+    (cond (eqb part 4) (holdingNumber (s .tables .dcm)) 0))))
 
 -- the kind of the answer, and its number times 256
 unfoldable pub answerNumber : Answer → ℕ

@@ -2,7 +2,6 @@
 // section to any state with any store, or ask any channel of them, and see what comes of it. One call gives one part, so a
 // caller of trial_offer lends a copy of the store for each.
 ghost use mathlib.Core.Path.{_≡_};
-ghost use lib.ListN.{length};
 ghost use Rattle.rules.specs.Holding.{fresh, offered, storeAfter};
 ghost use Rattle.rules.specs.Tuning.{tune};
 ghost use Rattle.tuner.specs.Checks.{checks};
@@ -13,7 +12,9 @@ use rules::Holding;
 use rules::LiveVersion;
 use rules::Mode;
 use rules::Offered;
+use rules::Settings;
 use rules::State;
+use rules::Tables;
 use rules::Tuned;
 
 fn holding_from(b: &[u8], at: u8) -> Holding
@@ -43,13 +44,16 @@ fn state_from(b: &[u8]) -> State
 {
     let low = fields::byte(b, 0);
     let high = fields::byte(b, 1);
-    State {
+    let settings = Settings {
         map: low as u16 + high as u16 * 256,
+    };
+    let tables = Tables {
         cds: holding_from(b, 2),
         mms: holding_from(b, 10),
         vcm: holding_from(b, 18),
         dcm: holding_from(b, 26),
-    }
+    };
+    State { tables, settings }
 }
 
 fn holding_number(h: Holding) -> u64
@@ -69,11 +73,11 @@ fn state_part(s: State, part: u32) -> u64
     ensures { λ x. ⌜ x ≡ statePart s part ⌝ }
 {
     match part {
-        0 => s.map as u64,
-        1 => holding_number(s.cds),
-        2 => holding_number(s.mms),
-        3 => holding_number(s.vcm),
-        4 => holding_number(s.dcm),
+        0 => s.settings.map as u64,
+        1 => holding_number(s.tables.cds),
+        2 => holding_number(s.tables.mms),
+        3 => holding_number(s.tables.vcm),
+        4 => holding_number(s.tables.dcm),
         _ => 0,
     }
 }
@@ -113,7 +117,7 @@ pub extern "C" fn trial_start(map: u16, part: u32) -> u64
 // Offers a section to a state of 34 bytes, and gives a part of what comes of it: of the state after, or the answer.
 #[no_mangle]
 pub extern "C" fn trial_offer(state: &[u8], store: &mut [u8], section: &[u8], part: u32) -> u64
-    ensures { λ x. ⌜ x ≡ offeredPart (offered (stateFrom (now (state .entry))) (length (now (store .entry))) (now (section .entry))) part ⌝ }
+    ensures { λ x. ⌜ x ≡ offeredPart (offered (stateFrom (now (state .entry))) (now (store .entry)) (now (section .entry))) part ⌝ }
     ensures { λ _. ⌜ now (store .exit) ≡ storeAfter (stateFrom (now (state .entry))) (now (store .entry)) (now (section .entry)) ⌝ }
 {
     let given = state_from(state);

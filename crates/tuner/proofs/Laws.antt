@@ -3,14 +3,14 @@ use Prim.Native.Nat.{ℕ, _+_, _<_, _≤_}
 use native.Mathlib.Omega.{arith}
 use native.Mathlib.Numerals.{add-one}
 use mathlib.Core.Path.{_≡_, refl, sym, ap, _∙_}
-use mathlib.Core.Bool.{Bool, true, false, cond}
+use mathlib.Core.Bool.{Bool, true, false, cond, not}
 use mathlib.Core.List.{List}
 use lib.ListN.{length}
 use lib.Dec.{leb}
-use borrow.Author.Tests.{le-leb, lt-leb, leb-true}
+use borrow.Author.Tests.{le-leb, lt-leb, leb-true, ne-eqb, not-true}
 use Rattle.rules.specs.Section.{Reading, wrong, right, withoutCrc, readSection, headOf, readAs}
-use Rattle.rules.specs.Holding.{four, limitOf, storeSize, sectionAt, holdingOf, liveAt, wellFormed}
-use Rattle.rules.specs.Tuning.{isSection, allLive, readsAs, every, liveReading, placeReads, tableReads, allRead, plant, needs, lookUp, tune}
+use Rattle.rules.specs.Holding.{limitOf, listed, notOurs, otherMap, readFor, storeSize, sectionAt, holdingOf, liveAt, wellFormed}
+use Rattle.rules.specs.Tuning.{tuned, isSection, tableLive, allLive, readsAs, every, liveReading, placeReads, tableReads, allRead, plant, needs, lookUp, tune}
 use Rattle.rules.specs.declared.Table.{Table}
 use Rattle.rules.specs.declared.State.{State}
 use Rattle.rules.specs.declared.SectionHead.{SectionHead}
@@ -19,16 +19,16 @@ use Rattle.rules.specs.declared.Tuned.{Tuned}
 use Rattle.rules.specs.declared.Tuned.the-variants as Tuned
 use Rattle.rules.proofs.Taken.{differ}
 use Rattle.rules.proofs.Formed.{formed}
-use Rattle.rules.proofs.States.{table-formed}
+use Rattle.rules.proofs.States.{each-at, each-no, table-formed, limit-some}
 use Rattle.rules.proofs.Placed.{last-low}
-use Rattle.rules.proofs.LivePlaces.{every-at, four-at}
+use Rattle.rules.proofs.LivePlaces.{every-at}
 use Rattle.search.specs.Live.{Live}
 use Rattle.tuner.specs.Checks.{checks, Few}
 
 -- ---- check 16 of one place
 
-section-of : (s : State) (t : Table) (n : ℕ) (section : List ℕ) (head : SectionHead) (r : Reading) → Read.Right head ≡ readAs section r → isSection s t n (head .table) (head .map) (head .revision) ≡ readsAs s t n r
-unfolding readAs readsAs headOf
+section-of : (s : State) (t : Table) (n : ℕ) (section : List ℕ) (head : SectionHead) (r : Reading) → Read.Right head ≡ readAs section r → isSection s t n (head .table) (notOurs s (head .table) (head .map)) (head .revision) ≡ readsAs s t n r
+unfolding readAs readsAs headOf otherMap
 section-of s t n section head (wrong k) e = let z : _≡_ {A = ℕ} 0 1 = cc in absurd (omega arith)
 section-of s t n section head (right c) e = let is : head ≡ headOf (withoutCrc section) c = cc in rw is
 
@@ -38,12 +38,12 @@ not-a-section s t n k section (wrong m) e = refl
 not-a-section s t n k section (right c) e = let z : _≡_ {A = ℕ} 0 1 = cc in absurd (omega arith)
 
 module _ (s : State) (store : List ℕ) (t : Table) (n : ℕ) (section : List ℕ) (there : section ≡ sectionAt store (liveAt s t n)) where
-  pub place-right : (head : SectionHead) → Read.Right head ≡ readAs section (readSection section) → isSection s t n (head .table) (head .map) (head .revision) ≡ placeReads s store t n
-  unfolding placeReads liveReading
+  pub place-right : (head : SectionHead) → Read.Right head ≡ readAs section (readSection section) → isSection s t n (head .table) (notOurs s (head .table) (head .map)) (head .revision) ≡ placeReads s store t n
+  unfolding placeReads liveReading readFor
   place-right head e = rw (← there) (section-of s t n section head (readSection section) e)
 
   pub place-wrong : (k : ℕ) → Read.Refused k ≡ readAs section (readSection section) → false ≡ placeReads s store t n
-  unfolding placeReads liveReading
+  unfolding placeReads liveReading readFor
   place-wrong k e = rw (← there) (not-a-section s t n k section (readSection section) e)
 
 -- ---- and of all places of a table
@@ -62,8 +62,16 @@ every-fails n test k lt e = go (every n test) refl
 -- ---- what the checks leave
 
 pub few : (s : State) → wellFormed s ≡ true → Few s
-unfolding limitOf
-few s good = record { few = λ t. last-low four (holdingOf s t .live) (omega arith) (formed four (holdingOf s t) (table-formed s t good) .live) }
+few s good = record { few = λ t. last-low (limitOf s) (holdingOf s t .live) (limit-some s) (formed (limitOf s) (holdingOf s t) (table-formed s t good) .live) }
+
+-- a table that was found not to be live, or not to read right
+pub one-not-live : (s : State) (t : Table) → listed tuned t ≡ true → (holdingOf s t .live .present ≡ 1 → ⊥) → false ≡ allLive s
+unfolding allLive tableLive
+one-not-live s t h ne = sym (each-no tuned (tableLive s) t h (ne-eqb (holdingOf s t .live .present) 1 ne))
+
+pub one-unread : (s : State) (store : List ℕ) (t : Table) → listed tuned t ≡ true → {b : Bool} → b ≡ tableReads s store t → not b ≡ true → false ≡ allRead s store
+unfolding allRead
+one-unread s store t h {b} e n = sym (each-no tuned (tableReads s store) t h (sym e ∙ not-true b n))
 
 pub record Passed (s : State) (store : List ℕ) : Type 0 where
   pub roomy : storeSize (limitOf s) ≤ length store
@@ -84,10 +92,10 @@ passed s store e =
     let sixteen = passes (allRead s store) 0 16 (fifteen .1) (omega arith) in
     record { roomy = leb-true (storeSize (limitOf s)) (length store) (one .0); good = two .0; live = fifteen .0; reads = sixteen .0 }
 
--- every table can be searched
-pub searchable : (s : State) (store : List ℕ) → checks s store ≡ 0 → (t : Table) → Live s store t
+-- every table that tuning needs can be searched
+pub searchable : (s : State) (store : List ℕ) → checks s store ≡ 0 → (t : Table) → listed tuned t ≡ true → Live s store t
 unfolding allRead
-searchable s store e t = record { few = few s (passed s store e .good) .few t; reads = four-at (tableReads s store) (passed s store e .reads) t }
+searchable s store e t h = record { few = few s (passed s store e .good) .few t; reads = each-at tuned (tableReads s store) (passed s store e .reads) t h }
 
 -- ---- the checks, one by one
 

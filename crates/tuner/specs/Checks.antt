@@ -4,7 +4,7 @@ use mathlib.Core.Bool.{cond}
 use mathlib.Core.List.{List}
 use lib.ListN.{length}
 use lib.Dec.{leb}
-use Rattle.rules.specs.Holding.{four, limitOf, storeSize, holdingOf, wellFormed}
+use Rattle.rules.specs.Holding.{limitOf, storeSize, holdingOf, wellFormed}
 use Rattle.rules.specs.Tuning.{allLive, allRead}
 use Rattle.rules.specs.declared.Table.{Table}
 use Rattle.rules.specs.declared.State.{State}
@@ -17,6 +17,6 @@ checks s store =
     (cond (allLive s)
     (cond (allRead s store) 0 16) 15) 2) 1
 
--- each table has at most four sections
+-- no table has more live sections than it may have
 pub record Few (s : State) : Type 0 where
-  pub few : (t : Table) → holdingOf s t .live .last < four
+  pub few : (t : Table) → holdingOf s t .live .last < limitOf s

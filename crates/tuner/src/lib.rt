@@ -3,7 +3,7 @@
 // again; `tune` is check and look-up.
 ghost use mathlib.Core.Path.{_≡_};
 ghost use Prim.Native.Nat.{_<_};
-ghost use Rattle.rules.specs.Holding.{four, holdingOf};
+ghost use Rattle.rules.specs.Holding.{limitOf, holdingOf, notOurs};
 ghost use Rattle.rules.specs.Tuning.{allLive, isSection, placeReads, tableReads, allRead, Plant, plant, inReach, tuneSignal, tuneKhz, tuneCarrier, tuneChannel};
 ghost use Rattle.rules.specs.Tuning as rule;
 ghost use Rattle.rules.specs.Said.{tunedSaid, tuneSaid};
@@ -28,16 +28,16 @@ use search::listing;
 fn all_live(s: State) -> bool
     ensures { λ x. ⌜ x ≡ allLive s ⌝ }
 {
-    if s.cds.live.present != 1 {
+    if s.tables.cds.live.present != 1 {
         return false;
     }
-    if s.mms.live.present != 1 {
+    if s.tables.mms.live.present != 1 {
         return false;
     }
-    if s.vcm.live.present != 1 {
+    if s.tables.vcm.live.present != 1 {
         return false;
     }
-    if s.dcm.live.present != 1 {
+    if s.tables.dcm.live.present != 1 {
         return false;
     }
     true
@@ -45,7 +45,7 @@ fn all_live(s: State) -> bool
 
 // Whether a section that reads right is section n of a live table: that table, map, version, number and last.
 fn is_section_of(s: State, t: Table, n: u8, head: SectionHead) -> bool
-    ensures { λ x. ⌜ x ≡ isSection s t n (head .table) (head .map) (head .revision) ⌝ }
+    ensures { λ x. ⌜ x ≡ isSection s t n (head .table) (notOurs s (head .table) (head .map)) (head .revision) ⌝ }
 {
     let table = head.table;
     if state::index_of(table) != state::index_of(t) {
@@ -79,7 +79,7 @@ fn place_reads(s: State, store: &[u8], t: Table, n: u8) -> bool
 }
 
 fn table_reads(s: State, store: &[u8], t: Table) -> bool
-    requires { ⌜ holdingOf s t .live .last < four ⌝ }
+    requires { ⌜ holdingOf s t .live .last < limitOf s ⌝ }
     ensures { λ x. ⌜ x ≡ tableReads s (now (store .entry)) t ⌝ }
 {
     let h = state::holding_of(s, t);
@@ -96,20 +96,23 @@ fn all_read(s: State, store: &[u8]) -> bool
     requires { ⌜ Few s ⌝ }
     ensures { λ x. ⌜ x ≡ allRead s (now (store .entry)) ⌝ }
 {
-    if table_reads(s, store, Table::Cds) {
-        if table_reads(s, store, Table::Mms) {
-            return table_reads(s, store, Table::Vcm) && table_reads(s, store, Table::Dcm);
-        }
+    if !table_reads(s, store, Table::Cds) {
         return false;
     }
-    false
+    if !table_reads(s, store, Table::Mms) {
+        return false;
+    }
+    if !table_reads(s, store, Table::Vcm) {
+        return false;
+    }
+    table_reads(s, store, Table::Dcm)
 }
 
 // The number of the refusal that goes for every channel, 1, 2, 15 or 16, or 0: channels can be looked up.
 pub fn check(state: State, store: &[u8]) -> u8
     ensures { λ x. ⌜ x ≡ checks state (now (store .entry)) ⌝ }
 {
-    if store.len() < state::STORE {
+    if store.len() < state::store_size(state) {
         return 1;
     }
     if !state::well_formed(state) {

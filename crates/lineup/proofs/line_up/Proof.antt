@@ -8,6 +8,9 @@ use Rattle.lineup.proofs.Laws.{refused-alone, with-rest}
 use Rattle.lineup.proofs.line_up.Statement.{statement}
 use Rattle.lineup.proofs.line_up.Tie as tie
 
+gather-requires : tie.Need-gather-requires
+gather-requires c κs = (search needs, rw (c .before .before .map-of .ensures) (c .before .before .before .before .before .before .pre .1))
+
 returns : tie.Need-returns
 returns c =
     let r = c .refused .ensures in
@@ -31,7 +34,7 @@ line-up-spec =
     (λ c κs. search needs)
     returns
     (λ c κs. search needs)
-    (λ c κs. search needs)
+    gather-requires
     (λ c κs. search needs)
     (λ c. search needs)
     returns-2)

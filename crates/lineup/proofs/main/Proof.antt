@@ -1,11 +1,12 @@
--- At most two bytes of map number are read, and the store is of zero bytes.
+-- At most two bytes of map number are read, and the store is that of a fresh box.
 use native.Mathlib.Omega.{arith}
 use borrow.Author.Needs.{needs}
+use Rattle.receiver.proofs.Laws.{fresh-store}
 use Rattle.lineup.proofs.main.Statement.{statement}
 use Rattle.lineup.proofs.main.Tie as tie
 
 line-up-requires : tie.Need-line-up-requires
-line-up-requires c κs = let r = c .before .before .before .before .before .before .read-full .ensures in (omega (arith, r .0, r .1), search needs)
+line-up-requires c κs = let r = c .before .before .before .before .before .before .read-full .ensures in (omega (arith, r .0, r .1), fresh-store _)
 
 pub main-spec : {M : Type 1} → statement M
 main-spec =

@@ -17,25 +17,25 @@ list-records-requires : tie.Need-list-records-requires
 list-records-requires c κs =
     let f = c .before in
     let a = f .before .before .before .args in
-    (searchable (a .state) (now (a .store)) (sym (f .before .check .ensures) ∙ f .if1 .left) Dcm, blank 4096 _ refl)
+    (searchable (a .state) (now (a .store)) (sym (f .before .check .ensures) ∙ f .if1 .left) Dcm refl, blank 4096 _ refl)
 
 list-records-requires-2 : tie.Need-list-records-requires-2
 list-records-requires-2 c κs =
     let f = c .before .before .before .before in
     let a = f .before .before .before .args in
-    (searchable (a .state) (now (a .store)) (sym (f .before .check .ensures) ∙ f .if1 .left) Vcm, blank 4096 _ refl)
+    (searchable (a .state) (now (a .store)) (sym (f .before .check .ensures) ∙ f .if1 .left) Vcm refl, blank 4096 _ refl)
 
 list-records-requires-3 : tie.Need-list-records-requires-3
 list-records-requires-3 c κs =
     let f = c .before .before .before .before .before .before .before in
     let a = f .before .before .before .args in
-    (searchable (a .state) (now (a .store)) (sym (f .before .check .ensures) ∙ f .if1 .left) Cds, blank 256 _ refl)
+    (searchable (a .state) (now (a .store)) (sym (f .before .check .ensures) ∙ f .if1 .left) Cds refl, blank 256 _ refl)
 
 list-records-requires-4 : tie.Need-list-records-requires-4
 list-records-requires-4 c κs =
     let f = c .before .before .before .before .before .before .before .before .before .before in
     let a = f .before .before .before .args in
-    (searchable (a .state) (now (a .store)) (sym (f .before .check .ensures) ∙ f .if1 .left) Mms, blank 256 _ refl)
+    (searchable (a .state) (now (a .store)) (sym (f .before .check .ensures) ∙ f .if1 .left) Mms refl, blank 256 _ refl)
 
 listed-lines-requires : tie.Need-listed-lines-requires
 listed-lines-requires c κs =

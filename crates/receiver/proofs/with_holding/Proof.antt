@@ -1,21 +1,18 @@
 -- One arm for each table.
+use mathlib.Core.Logic.{⊎-elim}
+use Rattle.rules.specs.Holding.{with}
 use borrow.Author.Needs.{needs}
 use Rattle.receiver.proofs.with_holding.Statement.{statement}
 use Rattle.receiver.proofs.with_holding.Tie as tie
 
 returns : tie.Need-returns
-returns c = simp (c .enum-told .given .1)
-
-returns-2 : tie.Need-returns-2
-returns-2 c = simp (c .enum-told2 .given .1)
-
-returns-3 : tie.Need-returns-3
-returns-3 c = simp (c .enum-told3 .given .1)
-
-returns-4 : tie.Need-returns-4
-returns-4 c = simp (c .enum-told4 .given .1)
+unfolding with
+returns c =
+    ⊎-elim (λ w. rw (w .2) (simp (w .1 .given .1)))
+    (⊎-elim (λ w. rw (w .2) (simp (w .1 .given .1)))
+    (⊎-elim (λ w. rw (w .2) (simp (w .1 .given .1)))
+    (λ w. rw (w .2) (simp (w .1 .given .1)))))
+    (c .before .match .came)
 
 pub with-holding-spec : {M : Type 1} → statement M
-with-holding-spec =
-    tie.close
-    (tie.spec (λ c. search needs) (λ c. search needs) (λ c. search needs) (λ c. search needs) returns returns-2 returns-3 returns-4)
+with-holding-spec = tie.close (tie.spec (λ c. search needs) (λ c. search needs) (λ c. search needs) (λ c. search needs) returns)

@@ -10,6 +10,9 @@ use Rattle.runs.proofs.Laws.{two-first}
 use Rattle.runs.proofs.line_up.Statement.{statement}
 use Rattle.runs.proofs.line_up.Tie as tie
 
+gather-requires : tie.Need-gather-requires
+gather-requires c κs = rw (c .before .before .map-of .ensures) (c .before .before .before .before .before .before .pre)
+
 returns : tie.Need-returns
 returns c =
     let r = c .refused .ensures in
@@ -35,7 +38,7 @@ line-up-spec =
     (λ c. search needs)
     (λ c. search needs)
     (λ c. search needs)
-    (λ c κs. search needs)
+    gather-requires
     (λ c κs. search needs)
     (λ c. search needs)
     returns-2)

@@ -3,6 +3,7 @@ use native.Mathlib.Omega.{arith}
 use lib.ListN.{take}
 use denote.Ref.{now}
 use borrow.Author.Needs.{needs}
+use Rattle.receiver.proofs.Laws.{fresh-store}
 use Rattle.runs.proofs.Laws.{no-room, both-put}
 use Rattle.runs.proofs.trial_lineup.Statement.{statement}
 use Rattle.runs.proofs.trial_lineup.Tie as tie
@@ -34,7 +35,7 @@ trial-lineup-spec =
     tie.close
     (tie.spec
     (λ c. search needs)
-    (λ c κs. search needs)
+    (λ c κs. fresh-store _)
     returns
     (λ c. search needs)
     returns-2

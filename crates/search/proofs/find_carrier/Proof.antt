@@ -10,7 +10,7 @@ use Rattle.rules.specs.Layout.{numbered}
 use Rattle.rules.specs.Search.{first}
 use Rattle.rules.proofs.Search.{Before, Within, begin, leave, fits, never, match, pass, nothing}
 use Rattle.fields.proofs.Laws.{part-whole, at-got, at-no}
-use Rattle.search.proofs.Bridge.{enter-live}
+use Rattle.search.proofs.Bridge.{few-sections, enter-live}
 use Rattle.rules.specs.Tables.{carriersOf, cds}
 use Rattle.rules.specs.Tuning.{isCarrier, carriersIn, liveCount, liveSection, liveRecords}
 use Rattle.rules.specs.declared.Table.the-variants.{Cds}
@@ -33,7 +33,7 @@ abbrev μ-loop : tie.MeasureT-loop
 μ-loop s store index sections i₀ i = sections - i
 
 add-sections : tie.Need-add-sections Inv-loop2 μ-loop2 Inv-loop μ-loop
-add-sections c = omega (arith, c .before .before .pre .few)
+add-sections c = omega (arith, few-sections (c .before .before .pre))
 
 loop-holds : tie.Need-loop-holds Inv-loop2 μ-loop2 Inv-loop μ-loop
 unfolding liveRecords
@@ -61,6 +61,9 @@ unfolding carrierFound isCarrier cds numbered
 returns c = let p = c .before .before .before .before .carriers-of .ensures ∙ ap carriersOf (part-whole (c .before .before .before .before .before .before .before .before .before .before .before .before .before .before .live-bytes .result .now) (c .before .before .before .before .before .before .before .before .before .before .before .loop2 .at) 5) in
     rw (c .carrier-khz .ensures, c .before .beyond .ensures, p)
     (ap (carrierFound _) (match (c .before .before .before .before .before .before .before .before .before .before .before .loop2 .inv .0) (omega arith) (rw p at (sym (c .before .before .before .covered .ensures) ∙ c .before .before .if1 .taken))))
+
+add-i : tie.Need-add-i Inv-loop2 μ-loop2 Inv-loop μ-loop
+add-i c = omega (arith, few-sections (c .before .before .before .before .before .before .before .before .before .pre))
 
 loop2-again : tie.Need-loop2-again Inv-loop2 μ-loop2 Inv-loop μ-loop
 unfolding isCarrier cds numbered
@@ -112,7 +115,7 @@ find-carrier-spec =
     (λ c. search needs)
     (λ c. search needs)
     loop2-again
-    (λ c. search needs)
+    add-i
     (λ c. search needs)
     loop-again
     returns-2)

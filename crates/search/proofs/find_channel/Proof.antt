@@ -10,7 +10,7 @@ use Rattle.rules.specs.Layout.{numbered}
 use Rattle.rules.specs.Search.{first}
 use Rattle.rules.proofs.Search.{Before, Within, begin, leave, fits, never, match, pass, nothing}
 use Rattle.fields.proofs.Laws.{part-whole, at-got, at-no}
-use Rattle.search.proofs.Bridge.{enter-live}
+use Rattle.search.proofs.Bridge.{few-sections, enter-live}
 use borrow.Author.Tests.{eq-eqb, ne-eqb}
 use Rattle.rules.specs.Tables.{vcm}
 use Rattle.rules.specs.Tuning.{isChannel, channelsIn, liveCount, liveSection, liveRecords}
@@ -34,7 +34,7 @@ abbrev μ-loop : tie.MeasureT-loop
 μ-loop s store number sections i₀ i = sections - i
 
 add-sections : tie.Need-add-sections Inv-loop2 μ-loop2 Inv-loop μ-loop
-add-sections c = omega (arith, c .before .before .pre .few)
+add-sections c = omega (arith, few-sections (c .before .before .pre))
 
 loop-holds : tie.Need-loop-holds Inv-loop2 μ-loop2 Inv-loop μ-loop
 unfolding liveRecords
@@ -62,6 +62,9 @@ returns : tie.Need-returns Inv-loop2 μ-loop2 Inv-loop μ-loop
 unfolding channelFound isChannel vcm numbered
 returns c = let p = part-whole (c .before .before .before .before .before .before .before .before .before .before .before .before .live-bytes .result .now) (c .before .before .before .before .before .before .before .before .before .before .loop2 .at) 9 in
     rw (c .channel-of .ensures, p) (ap channelFound (match (c .before .before .before .before .before .before .before .before .before .before .loop2 .inv) (omega arith) (eq-eqb _ _ (rw p at (sym (c .before .before .number-of .ensures) ∙ c .before .if1 .taken)))))
+
+add-i : tie.Need-add-i Inv-loop2 μ-loop2 Inv-loop μ-loop
+add-i c = omega (arith, few-sections (c .before .before .before .before .before .before .before .before .pre))
 
 loop2-again : tie.Need-loop2-again Inv-loop2 μ-loop2 Inv-loop μ-loop
 unfolding isChannel vcm numbered
@@ -108,7 +111,7 @@ find-channel-spec =
     (λ c. search needs)
     (λ c. search needs)
     loop2-again
-    (λ c. search needs)
+    add-i
     (λ c. search needs)
     loop-again
     returns-2)

@@ -15,7 +15,7 @@ use Rattle.rules.specs.declared.Table.the-variants.{Mms}
 use Rattle.rules.proofs.Search.{Before, Within, begin, leave, fits, never, match, pass, nothing}
 use Rattle.fields.proofs.Laws.{part-whole, at-got, at-no}
 use Rattle.search.specs.Live.{modeFound}
-use Rattle.search.proofs.Bridge.{enter-live}
+use Rattle.search.proofs.Bridge.{few-sections, enter-live}
 use Rattle.search.proofs.find_mode.Statement.{statement}
 use Rattle.search.proofs.find_mode.Tie as tie
 
@@ -34,7 +34,7 @@ abbrev μ-loop : tie.MeasureT-loop
 μ-loop s store index sections i₀ i = sections - i
 
 add-sections : tie.Need-add-sections Inv-loop2 μ-loop2 Inv-loop μ-loop
-add-sections c = omega (arith, c .before .before .pre .few)
+add-sections c = omega (arith, few-sections (c .before .before .pre))
 
 loop-holds : tie.Need-loop-holds Inv-loop2 μ-loop2 Inv-loop μ-loop
 unfolding liveRecords
@@ -60,6 +60,9 @@ fits-end c = omega (arith, fits (c .before .before .before .before .before .befo
 returns : tie.Need-returns Inv-loop2 μ-loop2 Inv-loop μ-loop
 unfolding modeFound isMode mms numbered
 returns c = rw (c .mode-of .ensures, part-whole (c .before .before .before .before .before .before .before .before .before .before .before .live-bytes .result .now) (c .before .before .before .before .before .before .before .before .loop2 .at) 6) (ap modeFound (match (c .before .before .before .before .before .before .before .before .loop2 .inv .0) (omega arith) (eq-eqb _ _ (c .before .before .if1 .taken))))
+
+add-i : tie.Need-add-i Inv-loop2 μ-loop2 Inv-loop μ-loop
+add-i c = omega (arith, few-sections (c .before .before .before .before .before .before .before .before .before .pre))
 
 loop2-again : tie.Need-loop2-again Inv-loop2 μ-loop2 Inv-loop μ-loop
 unfolding isMode mms numbered
@@ -106,7 +109,7 @@ find-mode-spec =
     (λ c. search needs)
     (λ c. search needs)
     loop2-again
-    (λ c. search needs)
+    add-i
     (λ c. search needs)
     loop-again
     returns-2)

@@ -10,7 +10,7 @@ use Rattle.rules.specs.Layout.{numbered}
 use Rattle.rules.specs.Search.{first}
 use Rattle.rules.proofs.Search.{Before, Within, begin, leave, fits, never, match, pass, nothing}
 use Rattle.fields.proofs.Laws.{part-whole, at-got, at-no}
-use Rattle.search.proofs.Bridge.{enter-live}
+use Rattle.search.proofs.Bridge.{few-sections, enter-live}
 use Rattle.rules.specs.Tables.{rangeOf, dcm}
 use Rattle.rules.specs.Tuning.{isRange, rangesIn, liveCount, liveSection, liveRecords, definedBy, defined}
 use Rattle.rules.specs.declared.Table.the-variants.{Dcm}
@@ -32,7 +32,7 @@ abbrev μ-loop : tie.MeasureT-loop
 μ-loop s store number sections i₀ i = sections - i
 
 add-sections : tie.Need-add-sections Inv-loop2 μ-loop2 Inv-loop μ-loop
-add-sections c = omega (arith, c .before .before .pre .few)
+add-sections c = omega (arith, few-sections (c .before .before .pre))
 
 loop-holds : tie.Need-loop-holds Inv-loop2 μ-loop2 Inv-loop μ-loop
 unfolding liveRecords
@@ -59,6 +59,9 @@ returns : tie.Need-returns Inv-loop2 μ-loop2 Inv-loop μ-loop
 unfolding defined definedBy isRange dcm numbered
 returns c = let p = part-whole (c .before .before .before .before .before .before .before .before .before .before .before .before .before .live-bytes .result .now) (c .before .before .before .before .before .before .before .before .before .before .loop2 .at) 1 in
     rw (c .before .before .before .range-of .ensures, p) (ap definedBy (match (c .before .before .before .before .before .before .before .before .before .before .loop2 .inv .0) (omega arith) (cc)))
+
+add-i : tie.Need-add-i Inv-loop2 μ-loop2 Inv-loop μ-loop
+add-i c = omega (arith, few-sections (c .before .before .before .before .before .before .before .before .before .pre))
 
 loop2-again : tie.Need-loop2-again Inv-loop2 μ-loop2 Inv-loop μ-loop
 unfolding isRange dcm numbered
@@ -108,7 +111,7 @@ is-defined-spec =
     (λ c. search needs)
     (λ c. search needs)
     loop2-again
-    (λ c. search needs)
+    add-i
     (λ c. search needs)
     loop-again
     returns-2)

@@ -1,48 +1,39 @@
--- Table by table, in the order of the rule.
-use Rattle.rules.specs.Holding.{wellFormed, limitOf}
+-- The first table that is not well formed decides; where the others are, the last one does.
 use borrow.Author.Needs.{needs}
+use borrow.Author.Tests.{not-false}
+use Rattle.rules.specs.Holding.{wellFormed}
+use Rattle.rules.specs.declared.Table.the-variants.{Cds, Mms, Vcm}
+use Rattle.state.proofs.Laws.{and-true, bad-table}
 use Rattle.state.proofs.well_formed.Statement.{statement}
 use Rattle.state.proofs.well_formed.Tie as tie
 
 returns : tie.Need-returns
-unfolding wellFormed limitOf
-returns c =
+returns c = bad-table _ Cds (c .before .before .limit-of .ensures .0) (c .before .is-formed .ensures) (c .if1 .taken)
+
+returns-2 : tie.Need-returns-2
+returns-2 c = bad-table _ Mms (c .before .before .before .before .limit-of .ensures .0) (c .before .is-formed2 .ensures) (c .if2 .taken)
+
+returns-3 : tie.Need-returns-3
+returns-3 c =
+    bad-table _ Vcm (c .before .before .before .before .before .before .limit-of .ensures .0) (c .before .is-formed3 .ensures) (c .if3 .taken)
+
+returns-4 : tie.Need-returns-4
+unfolding wellFormed
+returns-4 c =
     let vcm = c .before in
     let mms = vcm .before .before in
     let cds = mms .before .before in
     simp (
-      ← c .is-formed4 .ensures,
-      vcm .if3 .taken,
+      ← cds .before .before .limit-of .ensures .0,
+      ← cds .before .is-formed .ensures,
+      not-false (cds .before .is-formed .result) (cds .if1 .left),
+      ← mms .before .is-formed2 .ensures,
+      not-false (mms .before .is-formed2 .result) (mms .if2 .left),
       ← vcm .before .is-formed3 .ensures,
-      mms .if2 .taken,
-      ← mms .before .is-formed2 .ensures,
-      cds .if1 .taken,
-      ← cds .before .is-formed .ensures,
+      not-false (vcm .before .is-formed3 .result) (vcm .if3 .left),
+      ← c .is-formed4 .ensures,
+      and-true,
     )
-
-returns-2 : tie.Need-returns-2
-unfolding wellFormed limitOf
-returns-2 c =
-    let mms = c .before .before in
-    let cds = mms .before .before in
-    simp (
-      c .if3 .left,
-      ← c .before .is-formed3 .ensures,
-      mms .if2 .taken,
-      ← mms .before .is-formed2 .ensures,
-      cds .if1 .taken,
-      ← cds .before .is-formed .ensures,
-    )
-
-returns-3 : tie.Need-returns-3
-unfolding wellFormed limitOf
-returns-3 c =
-    let cds = c .before .before in
-    simp (c .if2 .left, ← c .before .is-formed2 .ensures, cds .if1 .taken, ← cds .before .is-formed .ensures)
-
-returns-4 : tie.Need-returns-4
-unfolding wellFormed limitOf
-returns-4 c = simp (c .if1 .left, ← c .before .is-formed .ensures)
 
 pub well-formed-spec : {M : Type 1} → statement M
 well-formed-spec =
@@ -50,9 +41,10 @@ well-formed-spec =
     (tie.spec
     (λ c κs. search needs)
     (λ c κs. search needs)
-    (λ c κs. search needs)
-    (λ c κs. search needs)
     returns
+    (λ c κs. search needs)
     returns-2
+    (λ c κs. search needs)
     returns-3
+    (λ c κs. search needs)
     returns-4)

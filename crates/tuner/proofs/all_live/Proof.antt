@@ -1,24 +1,23 @@
--- Table by table, in the order of the rule.
-use borrow.Author.Tests.{eq-eqb, ne-eqb}
+-- The first table that is not live decides.
+use mathlib.Core.Path.{refl}
+use borrow.Author.Tests.{eq-eqb}
 use Rattle.rules.specs.Tuning.{allLive, tableLive}
+use Rattle.rules.specs.declared.Table.the-variants.{Cds, Mms, Vcm, Dcm}
+use Rattle.tuner.proofs.Laws.{one-not-live}
 use Rattle.tuner.proofs.all_live.Statement.{statement}
 use Rattle.tuner.proofs.all_live.Tie as tie
 
 returns : tie.Need-returns
-unfolding allLive tableLive
-returns c = simp (ne-eqb _ _ (c .if1 .taken))
+returns c = one-not-live _ Cds refl (c .if1 .taken)
 
 returns-2 : tie.Need-returns-2
-unfolding allLive tableLive
-returns-2 c = simp (ne-eqb _ _ (c .if2 .taken), eq-eqb _ _ (c .before .before .if1 .left))
+returns-2 c = one-not-live _ Mms refl (c .if2 .taken)
 
 returns-3 : tie.Need-returns-3
-unfolding allLive tableLive
-returns-3 c = simp (ne-eqb _ _ (c .if3 .taken), eq-eqb _ _ (c .before .before .if2 .left), eq-eqb _ _ (c .before .before .before .before .if1 .left))
+returns-3 c = one-not-live _ Vcm refl (c .if3 .taken)
 
 returns-4 : tie.Need-returns-4
-unfolding allLive tableLive
-returns-4 c = simp (ne-eqb _ _ (c .if4 .taken), eq-eqb _ _ (c .before .before .if3 .left), eq-eqb _ _ (c .before .before .before .before .if2 .left), eq-eqb _ _ (c .before .before .before .before .before .before .if1 .left))
+returns-4 c = one-not-live _ Dcm refl (c .if4 .taken)
 
 returns-5 : tie.Need-returns-5
 unfolding allLive tableLive

@@ -1,46 +1,60 @@
--- Table by table, in the order of the rule.
+-- The first table that does not read right decides; where the others do, the last one does.
+use mathlib.Core.Path.{refl}
+use borrow.Author.Tests.{not-false}
 use Rattle.rules.specs.declared.Table.the-variants.{Cds, Mms, Vcm, Dcm}
 use Rattle.rules.specs.Tuning.{allRead}
+use Rattle.state.proofs.Laws.{and-true}
+use Rattle.tuner.proofs.Laws.{one-unread}
 use Rattle.tuner.proofs.all_read.Statement.{statement}
 use Rattle.tuner.proofs.all_read.Tie as tie
 
 table-reads-requires : tie.Need-table-reads-requires
 table-reads-requires c κs = c .before .pre .few Cds
 
+returns : tie.Need-returns
+returns c = one-unread _ _ Cds refl (c .before .table-reads .ensures) (c .if1 .taken)
+
 table-reads-requires-2 : tie.Need-table-reads-requires-2
 table-reads-requires-2 c κs = c .before .before .before .pre .few Mms
+
+returns-2 : tie.Need-returns-2
+returns-2 c = one-unread _ _ Mms refl (c .before .table-reads2 .ensures) (c .if2 .taken)
 
 table-reads-requires-3 : tie.Need-table-reads-requires-3
 table-reads-requires-3 c κs = c .before .before .before .before .before .pre .few Vcm
 
+returns-3 : tie.Need-returns-3
+returns-3 c = one-unread _ _ Vcm refl (c .before .table-reads3 .ensures) (c .if3 .taken)
+
 table-reads-requires-4 : tie.Need-table-reads-requires-4
 table-reads-requires-4 c κs = c .before .before .before .before .before .before .before .pre .few Dcm
 
-returns : tie.Need-returns
-unfolding allRead
-returns c = simp (← c .table-reads4 .ensures, c .before .if3 .taken, ← c .before .before .table-reads3 .ensures, c .before .before .before .if2 .taken, ← c .before .before .before .before .table-reads2 .ensures, c .before .before .before .before .before .if1 .taken, ← c .before .before .before .before .before .before .table-reads .ensures)
-
-returns-2 : tie.Need-returns-2
-unfolding allRead
-returns-2 c = simp (c .if3 .left, ← c .before .table-reads3 .ensures, c .before .before .if2 .taken, ← c .before .before .before .table-reads2 .ensures, c .before .before .before .before .if1 .taken, ← c .before .before .before .before .before .table-reads .ensures)
-
-returns-3 : tie.Need-returns-3
-unfolding allRead
-returns-3 c = simp (c .if2 .left, ← c .before .table-reads2 .ensures, c .before .before .if1 .taken, ← c .before .before .before .table-reads .ensures)
-
 returns-4 : tie.Need-returns-4
 unfolding allRead
-returns-4 c = simp (c .if1 .left, ← c .before .table-reads .ensures)
+returns-4 c =
+    let vcm = c .before in
+    let mms = vcm .before .before in
+    let cds = mms .before .before in
+    simp (
+      ← cds .before .table-reads .ensures,
+      not-false (cds .before .table-reads .result) (cds .if1 .left),
+      ← mms .before .table-reads2 .ensures,
+      not-false (mms .before .table-reads2 .result) (mms .if2 .left),
+      ← vcm .before .table-reads3 .ensures,
+      not-false (vcm .before .table-reads3 .result) (vcm .if3 .left),
+      ← c .table-reads4 .ensures,
+      and-true,
+    )
 
 pub all-read-spec : {M : Type 1} → statement M
 all-read-spec =
     tie.close
     (tie.spec
     table-reads-requires
-    table-reads-requires-2
-    table-reads-requires-3
-    table-reads-requires-4
     returns
+    table-reads-requires-2
     returns-2
+    table-reads-requires-3
     returns-3
+    table-reads-requires-4
     returns-4)

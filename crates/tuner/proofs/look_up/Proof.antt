@@ -1,5 +1,5 @@
 -- Too high, not defined, no record, or by the record found.
-use mathlib.Core.Path.{sym, _∙_}
+use mathlib.Core.Path.{refl, sym, _∙_}
 use denote.Ref.{now}
 use Rattle.rules.specs.Tuning.{plant}
 use Rattle.rules.specs.declared.Table.the-variants.{Vcm, Dcm}
@@ -13,10 +13,10 @@ returns : tie.Need-returns
 returns c = let a = c .before .before .args in too-high (a .state) (now (a .store)) (a .channel) (c .before .before .pre) (c .if1 .taken)
 
 is-defined-requires : tie.Need-is-defined-requires
-is-defined-requires c κs = let a = c .before .before .args in searchable (a .state) (now (a .store)) (c .before .before .pre) Dcm
+is-defined-requires c κs = let a = c .before .before .args in searchable (a .state) (now (a .store)) (c .before .before .pre) Dcm refl
 
 find-channel-requires : tie.Need-find-channel-requires
-find-channel-requires c κs = let a = c .before .before .before .before .args in searchable (a .state) (now (a .store)) (c .before .before .before .before .pre) Vcm
+find-channel-requires c κs = let a = c .before .before .before .before .args in searchable (a .state) (now (a .store)) (c .before .before .before .before .pre) Vcm refl
 
 returns-2 : tie.Need-returns-2
 unfolding plant

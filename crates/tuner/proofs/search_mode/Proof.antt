@@ -1,4 +1,5 @@
 -- Nothing is said of reference 0.
+use mathlib.Core.Path.{refl}
 use denote.Ref.{now}
 use Rattle.rules.specs.Tuning.{plant}
 use Rattle.rules.specs.declared.Table.the-variants.{Mms}
@@ -10,7 +11,7 @@ returns : tie.Need-returns
 returns c = record { is = λ ne. absurd (ne (c .if1 .taken)) }
 
 find-mode-requires : tie.Need-find-mode-requires
-find-mode-requires c κs = let a = c .before .before .args in searchable (a .s) (now (a .store)) (c .before .before .pre) Mms
+find-mode-requires c κs = let a = c .before .before .args in searchable (a .s) (now (a .store)) (c .before .before .pre) Mms refl
 
 returns-2 : tie.Need-returns-2
 unfolding plant

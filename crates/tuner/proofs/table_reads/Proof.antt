@@ -9,6 +9,7 @@ use denote.Ref.{now}
 use Rattle.rules.specs.Holding.{holdingOf}
 use Rattle.rules.specs.Tuning.{liveCount, every, placeReads, tableReads}
 use Rattle.rules.specs.declared.Holding.{Holding}
+use Rattle.rules.proofs.States.{limit-low}
 use Rattle.tuner.proofs.Laws.{every-more, every-fails}
 use Rattle.tuner.proofs.table_reads.Statement.{statement}
 use Rattle.tuner.proofs.table_reads.Tie as tie
@@ -20,7 +21,7 @@ abbrev μ-loop : tie.MeasureT-loop
 μ-loop s store t sections n₀ n = sections - n
 
 add-sections : tie.Need-add-sections Inv-loop μ-loop
-add-sections c = let e = ap (λ (h : Holding). h .live .last) (c .before .holding-of .ensures) in omega (arith, e, c .before .before .before .pre)
+add-sections c = let e = ap (λ (h : Holding). h .live .last) (c .before .holding-of .ensures) in omega (arith, e, c .before .before .before .pre, limit-low (c .before .before .before .args .s))
 
 loop-holds : tie.Need-loop-holds Inv-loop μ-loop
 unfolding every
@@ -34,7 +35,7 @@ returns c = let a = c .before .before .before .before .before .before .before .a
     (sym (c .before .place-reads .ensures) ∙ not-true (c .before .place-reads .result) (c .if1 .taken)))
 
 add-n : tie.Need-add-n Inv-loop μ-loop
-add-n c = let h = ap (λ (h : Holding). h .live .last) (c .before .before .before .before .before .holding-of .ensures) in omega (arith, h, c .before .before .loop-test .taken, c .before .before .before .before .before .before .before .pre)
+add-n c = let h = ap (λ (h : Holding). h .live .last) (c .before .before .before .before .before .holding-of .ensures) in omega (arith, h, c .before .before .loop-test .taken, c .before .before .before .before .before .before .before .pre, limit-low (c .before .before .before .before .before .before .before .args .s))
 
 loop-again : tie.Need-loop-again Inv-loop μ-loop
 loop-again c = let a = c .before .before .before .before .before .before .before .args in

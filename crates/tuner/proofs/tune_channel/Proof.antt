@@ -1,5 +1,5 @@
 -- An application, or on a carrier.
-use mathlib.Core.Path.{subst}
+use mathlib.Core.Path.{refl, subst}
 use Prim.Native.Nat.{ℕ}
 use denote.Ref.{now}
 use borrow.Author.Tests.{eq-eqb, ne-eqb}
@@ -16,7 +16,7 @@ unfolding tuneChannel applicationOf
 returns c = rw (eq-eqb _ _ (c .before .if1 .taken)) (c .application .ensures)
 
 find-carrier-requires : tie.Need-find-carrier-requires
-find-carrier-requires c κs = let a = c .before .before .before .args in searchable (a .s) (now (a .store)) (c .before .before .before .pre) Cds
+find-carrier-requires c κs = let a = c .before .before .before .args in searchable (a .s) (now (a .store)) (c .before .before .before .pre) Cds refl
 
 returns-2 : tie.Need-returns-2
 unfolding tuneChannel plant

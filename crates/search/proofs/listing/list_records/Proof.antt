@@ -12,6 +12,7 @@ use Rattle.rules.specs.Tuning.{liveCount}
 use Rattle.rules.specs.declared.Holding.{Holding}
 use Rattle.rules.proofs.Search.{fits, never}
 use Rattle.fields.proofs.Laws.{at-got, at-no}
+use Rattle.search.proofs.Bridge.{few-sections}
 use Rattle.search.proofs.Listed.{Outside, Inside, set-out, go-in, go-on, go-out, lists, live-place, small-place, small-at}
 use Rattle.search.proofs.listing.list_records.Statement.{statement}
 use Rattle.search.proofs.listing.list_records.Tie as tie
@@ -33,7 +34,7 @@ last-same : {h k : Holding} → h ≡ k → h .live .last ≡ k .live .last
 last-same e = ap (λ (x : Holding). x .live .last) e
 
 add-sections : tie.Need-add-sections Inv-loop2 μ-loop2 Inv-loop μ-loop
-add-sections c = omega (arith, c .before .before .before .before .pre .0 .few, last-same (c .before .holding-of .ensures))
+add-sections c = omega (arith, few-sections (c .before .before .before .before .pre .0), last-same (c .before .holding-of .ensures))
 
 loop-holds : tie.Need-loop-holds Inv-loop2 μ-loop2 Inv-loop μ-loop
 loop-holds c = (refl, set-out _ _ _ _ (c .before .before .before .before .pre .1))
@@ -52,7 +53,7 @@ add-list-one : tie.Need-add-list-one Inv-loop2 μ-loop2 Inv-loop μ-loop
 add-list-one c =
     let f = c .before .before .before .before .before .before in
     let g = c .before .before .before .before .before .before .before .before .before .before .before .before in
-    let small = small-place (c .before .before .before .before .before .before .before .before .before .before .before .before .before .before .before .before .before .args .t) (g .before .before .holding-of .result .half) (g .loop .i) (omega (arith, g .before .struct-known .given)) (omega (arith, c .before .before .before .before .before .before .before .before .before .before .before .loop-test .taken, c .before .before .before .before .before .before .before .before .before .before .before .before .before .before .before .before .before .pre .0 .few, last-same (g .before .before .holding-of .ensures))) in
+    let small = small-place (c .before .before .before .before .before .before .before .before .before .before .before .before .before .before .before .before .before .args .s) (c .before .before .before .before .before .before .before .before .before .before .before .before .before .before .before .before .before .args .t) (g .before .before .holding-of .result .half) (g .loop .i) (omega (arith, g .before .struct-known .given)) (omega (arith, c .before .before .before .before .before .before .before .before .before .before .before .loop-test .taken, few-sections (c .before .before .before .before .before .before .before .before .before .before .before .before .before .before .before .before .before .pre .0), last-same (g .before .before .holding-of .ensures))) in
     let low = small-at (c .before .before .before .before .before .before .before .before .before .before .before .before .before .before .before .before .before .args .t) (c .before .before .before .before .before .before .before .before .walk-of .result .included) _ _ _ _ (c .before .before .before .before .before .before .before .before .before .live-bytes .ensures) (fits (f .loop2 .inv .1 0 .ahead) (omega (arith, c .before .before .before .before .before .loop2-test .taken))) in
     omega (arith, c .before .before .before .before .before .before .before .before .before .before .place-of .ensures, small, low)
 
@@ -60,7 +61,7 @@ list-one-requires : tie.Need-list-one-requires Inv-loop2 μ-loop2 Inv-loop μ-lo
 list-one-requires c κs =
     let f = c .before .before .before .before .before .before in
     let g = c .before .before .before .before .before .before .before .before .before .before .before .before in
-    let small = small-place (c .before .before .before .before .before .before .before .before .before .before .before .before .before .before .before .before .before .args .t) (g .before .before .holding-of .result .half) (g .loop .i) (omega (arith, g .before .struct-known .given)) (omega (arith, c .before .before .before .before .before .before .before .before .before .before .before .loop-test .taken, c .before .before .before .before .before .before .before .before .before .before .before .before .before .before .before .before .before .pre .0 .few, last-same (g .before .before .holding-of .ensures))) in
+    let small = small-place (c .before .before .before .before .before .before .before .before .before .before .before .before .before .before .before .before .before .args .s) (c .before .before .before .before .before .before .before .before .before .before .before .before .before .before .before .before .before .args .t) (g .before .before .holding-of .result .half) (g .loop .i) (omega (arith, g .before .struct-known .given)) (omega (arith, c .before .before .before .before .before .before .before .before .before .before .before .loop-test .taken, few-sections (c .before .before .before .before .before .before .before .before .before .before .before .before .before .before .before .before .before .pre .0), last-same (g .before .before .holding-of .ensures))) in
     let low = small-at (c .before .before .before .before .before .before .before .before .before .before .before .before .before .before .before .before .before .args .t) (c .before .before .before .before .before .before .before .before .walk-of .result .included) _ _ _ _ (c .before .before .before .before .before .before .before .before .before .live-bytes .ensures) (fits (f .loop2 .inv .1 0 .ahead) (omega (arith, c .before .before .before .before .before .loop2-test .taken))) in
     omega (arith, c .before .before .before .before .before .before .before .before .before .before .place-of .ensures, small, low)
 
@@ -70,7 +71,7 @@ loop2-again c =
     let g = c .before .before .before .before .before .before .before .before .before .before .before .before .before .before .before in
     let a = c .before .before .before .before .before .before .before .before .before .before .before .before .before .before .before .before .before .before .before .before .args in
     let p = c .before .before .before .before .before .before .before .before .before .before .before .before .live-bytes .ensures in
-    let small = small-place (a .t) (g .before .before .holding-of .result .half) (g .loop .i) (omega (arith, g .before .struct-known .given)) (omega (arith, c .before .before .before .before .before .before .before .before .before .before .before .before .before .before .loop-test .taken, c .before .before .before .before .before .before .before .before .before .before .before .before .before .before .before .before .before .before .before .before .pre .0 .few, last-same (g .before .before .holding-of .ensures))) in
+    let small = small-place (a .s) (a .t) (g .before .before .holding-of .result .half) (g .loop .i) (omega (arith, g .before .struct-known .given)) (omega (arith, c .before .before .before .before .before .before .before .before .before .before .before .before .before .before .loop-test .taken, few-sections (c .before .before .before .before .before .before .before .before .before .before .before .before .before .before .before .before .before .before .before .before .pre .0), last-same (g .before .before .holding-of .ensures))) in
     let start : c .before .before .before .before .before .before .before .before .before .before .before .before .before .place-of .result ≡ liveAt (a .s) (a .t) (g .loop .i) = c .before .before .before .before .before .before .before .before .before .before .before .before .before .place-of .ensures ∙ live-place (a .s) (a .t) (g .loop .i) _ (g .before .before .holding-of .ensures) in
     let low = small-at (a .t) (c .before .before .before .before .before .before .before .before .before .before .before .walk-of .result .included) _ _ _ _ p (fits (f .loop2 .inv .1 0 .ahead) (omega (arith, c .before .before .before .before .before .before .before .before .loop2-test .taken))) in
     let passed = at-got _ _ _ (c .before .before .before .before .before .before .before .past-record .ensures) _ (c .before .before .before .before .before .next .given .1) .1 in
@@ -119,7 +120,7 @@ list-records-spec =
     (λ c. search needs)
     (λ c. search needs)
     loop2-again
-    (λ c. omega (arith, c .before .before .before .before .before .before .loop-test .taken, c .before .before .before .before .before .before .before .before .before .before .before .before .pre .0 .few, last-same (c .before .before .before .before .before .before .before .before .before .holding-of .ensures)))
+    (λ c. omega (arith, c .before .before .before .before .before .before .loop-test .taken, few-sections (c .before .before .before .before .before .before .before .before .before .before .before .before .pre .0), last-same (c .before .before .before .before .before .before .before .before .before .holding-of .ensures)))
     (λ c. search needs)
     loop-again
     (λ c. c .before .loop .inv .0)
