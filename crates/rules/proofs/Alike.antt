@@ -15,7 +15,7 @@ use Rattle.rules.specs.Gathering.{Collector, BoxOf, Outcome, placeOf, se
 use Rattle.rules.specs.Offering.{Taking, TakenIn}
 use Rattle.rules.specs.declared.Holding.{Holding}
 use Rattle.rules.specs.declared.Revision.{Revision}
-use Rattle.rules.proofs.Right.{one-right}
+use Rattle.rules.proofs.Right.{one-right, not-right}
 use Rattle.rules.proofs.Taken.{differ}
 use Rattle.rules.proofs.Held.{holds-all}
 use Rattle.rules.proofs.Formed.{formed}
@@ -26,18 +26,26 @@ use Rattle.rules.proofs.Kept.{length-kept}
 use Rattle.rules.proofs.Faithful.{live-low, gathered-low}
 use Rattle.rules.proofs.Placed.{isPlace, place-after}
 
--- ---- what a reading says but for what gathering does not look at
+-- ---- what a reading means, of which gathering looks at no more
 
-unfoldable pub plain : {C : Type 0} → (C → C) → ReadingOf C → ReadingOf C
-plain bare (wrong n) = wrong n
-plain bare (right c) = right (bare c)
+unfoldable pub meaning : {C M : Type 0} → (C → M) → ReadingOf C → ReadingOf M
+meaning means (wrong n) = wrong n
+meaning means (right c) = right (means c)
 
--- a content bared of it is of the same table and revision, and set aside by the same word
-pub record Bared {T S C : Type 0} (co : Collector T S C) (bare : C → C) : Type 0 where
-  pub table : (c : C) → co .table (bare c) ≡ co .table c
-  pub revision : (c : C) → co .revision (bare c) ≡ co .revision c
-  pub aside : (s : S) (c : C) → co .aside s (bare c) ≡ co .aside s c
-  pub word : (s : S) (c : C) → co .word s (bare c) ≡ co .word s c
+-- what means the same is of the same table and revision, and set aside by the same word
+pub record Enough {T S C M : Type 0} (co : Collector T S C) (means : C → M) : Type 0 where
+  pub table : (c d : C) → means c ≡ means d → co .table c ≡ co .table d
+  pub revision : (c d : C) → means c ≡ means d → co .revision c ≡ co .revision d
+  pub aside : (s : S) (c d : C) → means c ≡ means d → co .aside s c ≡ co .aside s d
+  pub word : (s : S) (c d : C) → means c ≡ means d → co .word s c ≡ co .word s d
+
+-- whatever looks at no more comes to the same
+by-meaning : {C M X : Type 0} (means : C → M) (f : ReadingOf C → X) → ((c d : C) → means c ≡ means d → f (right c) ≡ f (right d)) → (q r : ReadingOf C) → meaning means q ≡ meaning means r → f q ≡ f r
+unfolding meaning
+by-meaning means f same (wrong m) (wrong n) e = let k : m ≡ n = cc in ap (λ (x : ℕ). f (wrong x)) k
+by-meaning means f same (wrong m) (right d) e = absurd (not-right m (means d) e)
+by-meaning means f same (right c) (wrong n) e = absurd (not-right n (means c) (sym e))
+by-meaning means f same (right c) (right d) e = same c d (one-right e)
 
 -- ---- two boxes alike
 
@@ -79,27 +87,26 @@ module _ (h : Holding) (r : Revision) (limit : ℕ) (k : Taking h r limit) (half
       more (inl live) = inr (inl live)
       more (inr (gathered, is, held)) = held-place is held
 
--- or of nothing
-pub itself : {T S C : Type 0} (co : Collector T S C) → Bared co (λ c. c)
-itself co = record { table = λ c. refl; revision = λ c. refl; aside = λ s c. refl; word = λ s c. refl }
+-- a content itself is enough
+pub itself : {T S C : Type 0} (co : Collector T S C) → Enough co (λ c. c)
+itself co = record { table = λ c d. ap (co .table); revision = λ c d. ap (co .revision); aside = λ s c d. ap (co .aside s); word = λ s c d. ap (co .word s) }
 
-module _ {T S C : Type 0} (co : Collector T S C) (bare : C → C) where
+module _ {T S C M : Type 0} (co : Collector T S C) (means : C → M) where
   open Collector co using (index as indexOf, holding as holdingOf, limit as limitOf, read as readFor, table as tableOf, revision as revisionOf)
 
-  -- two sections say the same but for that
+  -- two sections say the same
   pub record SaySame (s : S) (x y : List ℕ) : Type 0 where
-    pub same : plain bare (readFor s y) ≡ plain bare (readFor s x)
+    pub same : meaning means (readFor s y) ≡ meaning means (readFor s x)
 
   pub same-itself : (s : S) (x : List ℕ) → SaySame s x x
   same-itself s x = record { same = refl }
 
   -- to a state that reads as this one they do too
   says-on : {s u : S} → ((z : List ℕ) → readFor u z ≡ readFor s z) → {x y : List ℕ} → SaySame s x y → SaySame u x y
-  says-on same {x} {y} w = record { same = ap (plain bare) (same y) ∙ w .same ∙ sym (ap (plain bare) (same x)) }
+  says-on same {x} {y} w = record { same = ap (meaning means) (same y) ∙ w .same ∙ sym (ap (meaning means) (same x)) }
 
-  -- whatever is blind to it comes to the same
-  pub by-plain : {X : Type 0} (f : ReadingOf C → X) → ((r : ReadingOf C) → f (plain bare r) ≡ f r) → {s : S} {x y : List ℕ} → SaySame s x y → f (readFor s y) ≡ f (readFor s x)
-  by-plain f blind {s} {x} {y} w = sym (blind (readFor s y)) ∙ ap f (w .same) ∙ blind (readFor s x)
+  pub by-same : {X : Type 0} (f : ReadingOf C → X) → ((c d : C) → means c ≡ means d → f (right c) ≡ f (right d)) → {s : S} {x y : List ℕ} → SaySame s x y → f (readFor s y) ≡ f (readFor s x)
+  by-same f same {s} {x} {y} w = by-meaning means f same (readFor s y) (readFor s x) (w .same)
 
   pub record Alike (b c : BoxOf S) : Type 0 where
     pub state : c .state ≡ b .state
@@ -129,23 +136,22 @@ module _ {T S C : Type 0} (co : Collector T S C) (bare : C → C) where
       empty (inl (live, is, le)) = omega (arith, live)
       empty (inr (gathered, is, held)) = omega (arith, gathered)
 
-  module _ (law : Lawful co) (blind : Bared co bare) where
+  module _ (law : Lawful co) (enough : Enough co means) where
     open Lawful law using (table-formed)
 
-    offered-plain : (s : S) (r : ReadingOf C) → offeredAs co s (plain bare r) ≡ offeredAs co s r
-    unfolding offeredAs plain
-    offered-plain s (wrong n) = refl
-    offered-plain s (right c) = rw (blind .aside s c, blind .word s c, blind .table c, blind .revision c) refl
+    offered-right : (s : S) (c d : C) → means c ≡ means d → offeredAs co s (right c) ≡ offeredAs co s (right d)
+    unfolding offeredAs
+    offered-right s c d e = rw (enough .aside s c d e, enough .word s c d e, enough .table c d e, enough .revision c d e) refl
 
     offered-same : (s : S) (store other : List ℕ) {x y : List ℕ} → length other ≡ length store → SaySame s x y → offered co s other y ≡ offered co s store x
     unfolding offered
-    offered-same s store other e w = rw (e, by-plain (offeredAs co s) (offered-plain s) w) refl
+    offered-same s store other e w = rw (e, by-same (offeredAs co s) (offered-right s) w) refl
 
     right-same : (s : S) (x y : List ℕ) (c d : C) → readFor s x ≡ right c → readFor s y ≡ right d → SaySame s x y → (tableOf d ≡ tableOf c) × (revisionOf d ≡ revisionOf c)
-    unfolding plain
+    unfolding meaning
     right-same s x y c d ex ey w =
-        let k : bare d ≡ bare c = one-right (ap (plain bare) (sym ey) ∙ w .same ∙ ap (plain bare) ex) in
-        (sym (blind .table d) ∙ ap (λ (z : C). tableOf z) k ∙ blind .table c, sym (blind .revision d) ∙ ap (λ (z : C). revisionOf z) k ∙ blind .revision c)
+        let k : means d ≡ means c = one-right (ap (meaning means) (sym ey) ∙ w .same ∙ ap (meaning means) ex) in
+        (enough .table d c k, enough .revision d c k)
 
     -- an occupied place that is not the section's was occupied before
     module _ (b : BoxOf S) (x : List ℕ) (c : C) (k : TakenIn co b x c) (t : T) (half n : ℕ) where

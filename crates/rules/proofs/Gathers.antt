@@ -17,12 +17,12 @@ use Rattle.rules.proofs.Offering.{complete-lives}
 use Rattle.rules.proofs.Placed.{held-stays, live-sections, live-section-kept}
 use Rattle.rules.proofs.GoingLive.{goes-live}
 use Rattle.rules.proofs.Faithful.{FaithfulBox, section-placed, faithful-run, faithful-fresh}
-use Rattle.rules.proofs.Alike.{Bared, Paired, itself, each-itself, alike-itself, fresh-alike, run-alike}
+use Rattle.rules.proofs.Alike.{Enough, Paired, itself, each-itself, alike-itself, fresh-alike, run-alike}
 
 module _ {T S C : Type 0} (co : Collector T S C) where
   open Collector co using (holding as holdingOf, limit as limitOf, read as readFor, table as tableOf, revision as revisionOf)
 
-  pub record Gathers : Type 0 where
+  pub record Gathers : Type 1 where
     -- condition 1: what is taken in has passed every check, and every other answer changes neither state nor store
     pub taken-checked : (b : BoxOf S) (section : List ℕ) → takesIn (answerTo co b section) ≡ true → (c : C) × TakenIn co b section c
     pub others-leave : (b : BoxOf S) (section : List ℕ) → takesIn (answerTo co b section) ≡ false → boxAfter co b section ≡ b
@@ -52,8 +52,9 @@ module _ {T S C : Type 0} (co : Collector T S C) where
     -- of a fresh box, with any store, the places of what is live or held read as they should
     pub live-reads : (start : S) (store : List ℕ) → ((t : T) → holdingOf start t ≡ freshHolding) → (sections : List (List ℕ))
         → FaithfulBox co start (run co (record { state = start; store = store }) sections)
-    -- condition 3: growth, of what gathering does not look at, changes no answer and no state; nor does what stood in a fresh box's store
-    pub same-run : (bare : C → C) → Bared co bare → (b : BoxOf S) {ss gs : List (List ℕ)} → Paired co bare (b .state) ss gs → (answers co b gs ≡ answers co b ss) × (run co b gs .state ≡ run co b ss .state)
+    -- condition 3: sections that mean the same get the same answers and leave the same state, wherever gathering looks at no more than that (so
+    -- growth changes nothing); nor does what stood in a fresh box's store matter
+    pub same-run : {M : Type 0} (means : C → M) → Enough co means → (b : BoxOf S) {ss gs : List (List ℕ)} → Paired co means (b .state) ss gs → (answers co b gs ≡ answers co b ss) × (run co b gs .state ≡ run co b ss .state)
     pub any-store : (start : S) (store other : List ℕ) → ((t : T) → holdingOf start t ≡ freshHolding) → length other ≡ length store → (sections : List (List ℕ))
         → run co (record { state = start; store = other }) sections .state ≡ run co (record { state = start; store = store }) sections .state
 
@@ -74,6 +75,6 @@ module _ {T S C : Type 0} (co : Collector T S C) where
         other-holdings = others-kept co law;
         same-sections = live-section-kept co law;
         live-reads = λ start store fresh sections. faithful-run co law start sections _ (faithful-fresh co start store fresh);
-        same-run = λ bare blind b g. let r = run-alike co bare law blind b b g (alike-itself co bare b) in (r .0, r .1 .state);
+        same-run = λ means enough b g. let r = run-alike co means law enough b b g (alike-itself co means b) in (r .0, r .1 .state);
         any-store = λ start store other fresh e sections. run-alike co (λ c. c) law (itself co) _ _ (each-itself co (λ c. c) start sections) (fresh-alike co (λ c. c) start store other fresh e) .1 .state;
       }

@@ -1,55 +1,71 @@
--- Two boxes alike tune alike, and a section that has grown says the same: gathering and tuning look at nothing that stands in closing lists.
+-- Two boxes alike tune alike, and a section that has grown says the same: gathering and tuning look at what a section means and at its
+-- revision, and at no more.
 use Prim.Native.Nat.{ℕ, zero, suc, _<_}
 use native.Mathlib.Omega.{arith}
-use mathlib.Core.Path.{_≡_, refl}
+use mathlib.Core.Path.{_≡_, refl, ap}
 use mathlib.Core.Bool.{Bool, true, false}
 use mathlib.Core.Logic.{inl}
-use mathlib.Core.List.{List, []}
+use mathlib.Core.List.{List}
 use lib.ListN.{length}
 use lib.Dec.{leb}
-use Rattle.rules.specs.Section.{Structure, Content, Reading, wrong, right}
+use Rattle.rules.specs.Form.{Plant}
+use Rattle.rules.specs.Section.{Content, right, readSection}
+use Rattle.rules.specs.Meaning.{Meaning, meant}
 use Rattle.rules.specs.Gathering as Gathering
-use Rattle.rules.specs.Holding.{limitOf, listed, readFor, sectionAt, storeSize, holdingOf, liveAt, wellFormed, otherMap, Box, box}
-use Rattle.rules.specs.Tuning.{tuned, allLive, liveCount, liveReading, readsAs, every, placeReads, tableReads, allRead, carriersIn, modesIn, channelsIn, rangesIn, recordsIn, liveSection, liveRecords, plant, needs, lookUp, tune}
+use Rattle.rules.specs.Holding.{limitOf, listed, readFor, sectionAt, storeSize, holdingOf, liveAt, wellFormed, notOurs, otherMap, Box, box}
+use Rattle.rules.specs.Tuning.{tuned, allLive, liveCount, liveReading, isSection, readsAs, every, placeReads, tableReads, allRead, recordsIn, liveSection, liveRecords, plant, needs, lookUp, tune}
 use Rattle.rules.specs.Growth.{Grown}
 use Rattle.rules.specs.declared.Table.{Table}
 use Rattle.rules.specs.declared.Table.the-variants.{Cds, Mms, Vcm, Dcm}
+use Rattle.rules.specs.declared.Revision.{Revision}
 use Rattle.rules.specs.declared.State.{State}
 use Rattle.rules.proofs.LiveRecords.{same-sections}
 use Rattle.rules.proofs.States.{each-same}
 use Rattle.rules.proofs.LivePlaces.{live-says}
 use Rattle.rules.proofs.Grown.{withClosing, grown-reads}
-use Rattle.rules.proofs.Alike.{plain, Bared, by-plain}
+use Rattle.rules.proofs.Alike.{meaning, Enough, by-same}
 use Rattle.rules.proofs.Alike as Alikes
 
--- what holding and tuning look at: all but the closing list
-abbrev pub bare : Content → Content
-bare c = withClosing c []
+-- what holding and tuning look at: what a section means, and its revision
+abbrev pub says : Content → Meaning × Revision
+says c = (meant c, c .revision)
 
-pub bared : Bared box bare
-unfolding otherMap
-bared = record { table = λ c. refl; revision = λ c. refl; aside = λ s c. refl; word = λ s c. refl }
+table-says : (c d : Content) → says c ≡ says d → c .table ≡ d .table
+unfolding meant
+table-says c d e = ap (λ (m : Meaning × Revision). m .0 .table) e
+
+revision-says : (c d : Content) → says c ≡ says d → c .revision ≡ d .revision
+revision-says c d e = ap (λ (m : Meaning × Revision). m .1) e
+
+map-says : (s : State) (c d : Content) → says c ≡ says d → otherMap s c ≡ otherMap s d
+unfolding otherMap meant
+map-says s c d e = ap (λ (m : Meaning × Revision). notOurs s (m .0 .table) (m .0 .map)) e
+
+pub enough : Enough box says
+enough = record { table = table-says; revision = revision-says; aside = map-says; word = λ s c d e. refl }
 
 abbrev pub SaySame : State → (x y : List ℕ) → Type 0
-SaySame = Alikes.SaySame box bare
+SaySame = Alikes.SaySame box says
 
 abbrev pub Alike : (b c : Box) → Type 0
-Alike = Alikes.Alike box bare
+Alike = Alikes.Alike box says
 
--- a section that has grown says the same
+-- a section that has grown reads right, means the same and has the same revision
+pub grown-means : (s g : List ℕ) (w : Grown s g) → (c : Content) × (readSection g ≡ right c) × (meant c ≡ meant (w .content)) × (c .revision ≡ w .content .revision)
+unfolding meant
+grown-means s g w = (withClosing (w .content) (w .after .closing), grown-reads s g w, refl, refl)
+
 pub grown-says : (u : State) (s g : List ℕ) → Grown s g → SaySame u s g
-unfolding plain readFor
+unfolding meaning meant readFor
 grown-says u s g w = record { same = rw (grown-reads s g w, w .reads) refl }
 
-reads-bare : (s : State) (t : Table) (n : ℕ) (r : Reading) → readsAs s t n (plain bare r) ≡ readsAs s t n r
-unfolding readsAs plain otherMap
-reads-bare s t n (wrong k) = refl
-reads-bare s t n (right c) = refl
+reads-same : (s : State) (t : Table) (n : ℕ) (c d : Content) → says c ≡ says d → readsAs s t n (right c) ≡ readsAs s t n (right d)
+unfolding readsAs otherMap meant
+reads-same s t n c d e = ap (λ (m : Meaning × Revision). isSection s t n (m .0 .table) (notOurs s (m .0 .table) (m .0 .map)) (m .1)) e
 
-records-bare : {R : Type 0} (records : Structure → List R) (r : Reading) → recordsIn records (plain bare r) ≡ recordsIn records r
-unfolding recordsIn plain
-records-bare records (wrong k) = refl
-records-bare records (right c) = refl
+records-same : {R : Type 0} (records : Plant → List R) (c d : Content) → says c ≡ says d → recordsIn (λ x. records (x .lists)) (right c) ≡ recordsIn (λ x. records (x .lists)) (right d)
+unfolding recordsIn meant
+records-same records c d e = ap (λ (m : Meaning × Revision). records (m .0 .lists)) e
 
 every-same : (n : ℕ) (f g : ℕ → Bool) → ((k : ℕ) → k < n → f k ≡ g k) → every n f ≡ every n g
 unfolding every
@@ -67,11 +83,12 @@ module _ (b c : Box) (a : Alike b c) where
 
     table-alike : (t : Table) → listed tuned t ≡ true → tableReads s (c .store) t ≡ tableReads s (b .store) t
     unfolding tableReads placeReads liveReading
-    table-alike t h = every-same (liveCount s t) _ _ (λ n lt. by-plain box bare (readsAs s t n) (reads-bare s t n) (live-alike t h n lt))
+    table-alike t h = every-same (liveCount s t) _ _ (λ n lt. by-same box says (readsAs s t n) (reads-same s t n) (live-alike t h n lt))
 
-    records-alike : {R : Type 0} (records : Structure → List R) (t : Table) → listed tuned t ≡ true → liveRecords records s (c .store) t ≡ liveRecords records s (b .store) t
+    records-alike : {R : Type 0} (records : Plant → List R) (t : Table) → listed tuned t ≡ true
+        → liveRecords (λ x. records (x .lists)) s (c .store) t ≡ liveRecords (λ x. records (x .lists)) s (b .store) t
     unfolding liveRecords liveSection liveReading
-    records-alike records t h = same-sections _ _ (liveCount s t) 0 (λ n lt. by-plain box bare (recordsIn records) (records-bare records) (live-alike t h n (omega arith)))
+    records-alike records t h = same-sections _ _ (liveCount s t) 0 (λ n lt. by-same box says (recordsIn (λ x. records (x .lists))) (records-same records) (live-alike t h n (omega arith)))
 
     read-alike : allRead s (c .store) ≡ allRead s (b .store)
     unfolding allRead
@@ -79,7 +96,7 @@ module _ (b c : Box) (a : Alike b c) where
 
     plant-alike : plant s (c .store) ≡ plant s (b .store)
     unfolding plant
-    plant-alike = rw (records-alike carriersIn Cds refl, records-alike modesIn Mms refl, records-alike channelsIn Vcm refl, records-alike rangesIn Dcm refl) refl
+    plant-alike = rw (records-alike (λ p. p .carriers) Cds refl, records-alike (λ p. p .modes) Mms refl, records-alike (λ p. p .channels) Vcm refl, records-alike (λ p. p .ranges) Dcm refl) refl
 
   pub tune-alike : (number : ℕ) → tune (c .state) (c .store) number ≡ tune s (b .store) number
   unfolding tune needs

@@ -13,7 +13,7 @@ use Rattle.rules.specs.Bytes.{byte}
 use Rattle.rules.specs.Crc.{crcOf}
 use Rattle.rules.specs.Descriptors.{Descriptor}
 use Rattle.rules.specs.Form.{form}
-use Rattle.rules.specs.Section.{revisionTag, Content, right, readSection, fitting, withoutCrc}
+use Rattle.rules.specs.Section.{isNumber, revisionTag, Content, right, readSection, fitting, withoutCrc}
 use Rattle.rules.specs.Parts.{Piece, Parts, bytesOf, Shaped}
 use Rattle.rules.specs.declared.Asked.{Asked}
 use Rattle.rules.specs.declared.Asked.the-variants as Asked
@@ -119,3 +119,11 @@ Untouched tag (kept (stays e) g) = Untouched tag g
 Untouched tag (kept {d = d} (other n t) g) = (d .tag ≡ tag → ⊥) × Untouched tag g
 Untouched tag (kept (revised r) g) = Untouched tag g
 Untouched tag (added d n g) = (d .tag ≡ tag → ⊥) × Untouched tag g
+
+-- ---- "A section with a protocol version other than 0 is refused as that, once it has passed the earlier checks": 3, 4 and 5
+
+pub record OtherProtocol (section : List ℕ) : Type 0 where
+  pub three : fitting section ≡ true
+  pub four : isNumber (byte 0 section) ≡ true
+  pub five : crcOf section ≡ 0
+  pub six : byte 3 section % 32 ≡ 0 → ⊥

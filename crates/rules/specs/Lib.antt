@@ -6,6 +6,7 @@ pub mod Tables
 pub mod Search
 pub mod Form
 pub mod Section
+pub mod Meaning
 pub mod Parts
 pub mod InParts
 pub mod Steps
