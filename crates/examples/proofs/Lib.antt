@@ -16,6 +16,8 @@ pub mod Printed  -- the two that the paper prints, and the first and the last ch
 pub mod Growths  -- what is growth
 pub mod GrowthLimits  -- what is not
 pub mod GrownPlant  -- the paper's line of a grown plant
+-- ---- gathering, of another collector than the box
+pub mod SecondCollector  -- one table, places of 4,096 bytes, its own reader
 -- ---- what these share
 pub mod Plants  -- sections
 pub mod Sweeps  -- a clause tried on every value
