@@ -13,7 +13,7 @@ use Rattle.rules.specs.Bytes.{Got, refused, got, unless, andThen, giving
 use Rattle.rules.specs.Descriptors.{Descriptor, descriptor, passed, counted, filling, closing}
 use Rattle.rules.specs.Layout.{Block, taken, Layout, entry, after, records}
 use Rattle.rules.specs.Form.{Front, Form, form}
-use Rattle.rules.specs.Section.{given, headerOf, headerBy, header, frontOf, structure, revision, Content, contentOf, content, whole, Reading, wrong, right, read, readSection, checkOf, check, askedOf, ask}
+use Rattle.rules.specs.Section.{given, headerOf, headerBy, header, inFront, structure, revision, Content, contentOf, content, whole, Reading, wrong, right, read, readSection, checkOf, check, askedOf, ask}
 use Rattle.rules.specs.Gathering as Gathering
 use Rattle.rules.specs.Gathering.{Outcome}
 use Rattle.rules.specs.Holding.{limitOf, storeSize, holdingOf, wellFormed, allOf, otherLast, isRepeat, goneLive, gathering, liveOrStored, heldWith, stepOf, otherMap, readFor, stepped, offeredAs, offered, Box, answerTo, box}
@@ -121,8 +121,8 @@ unfolding header headerBy
 header-by bs = unless-by _ 8 _ eight (given-by _ 7 _ seven (λ t. giving-by _ _ (taken-by (headerOf (form t)) (form t .limits) bs)))
 
 structure-by : (f : Form) (x : Front) (bs : List ℕ) → ByNumber (structure f x bs)
-unfolding structure frontOf
-structure-by f x bs = then-by (frontOf f x bs) _ (giving-by _ _ (taken-by (f .head) (λ h. true) bs)) (λ y rest. giving-by _ _ (records-by (f .layout y) _ _ _))
+unfolding structure inFront
+structure-by f x bs = then-by (inFront f x bs) _ (giving-by _ _ (taken-by (f .head) (λ h. true) bs)) (λ y rest. giving-by _ _ (records-by (f .layout y) _ _ _))
 
 revision-by : (bs : List (List ℕ)) → ByNumber (revision bs)
 unfolding revision

@@ -12,7 +12,7 @@ use Rattle.rules.specs.Bytes.{Got, got, andThen, giving, byte, from}
 use Rattle.rules.specs.Descriptors.{Descriptor, closing, bodies}
 use Rattle.rules.specs.Layout.{extent, taken, Numbered, records}
 use Rattle.rules.specs.Form.{Front, Form, form}
-use Rattle.rules.specs.Section.{headerOf, Headed, headerBy, header, Structure, frontOf, structure, revisionTag, revision, Content, contentOf, content}
+use Rattle.rules.specs.Section.{headerOf, Headed, headerBy, header, Structure, inFront, structure, revisionTag, revision, Content, contentOf, content}
 use Rattle.rules.specs.Parts.{Piece, Parts, encoded, area, Own, Sized, saidFront, laidOut, bytesOf, Shaped, said, Fair}
 use Rattle.rules.specs.InParts.{ReadFrom, PartsRight, contentIn}
 use Rattle.rules.specs.declared.Table.{Table}
@@ -97,7 +97,7 @@ module _ (f : Form) (p : Parts) (s : Shaped f p) where
 
   structure-said : (x : Structure) (rest : List ℕ) → structure f (f .header .look (p .header)) (behindHeader f p) ≡ got x rest
       → (f .head .zeros (p .head) ≡ true) × (rest ≡ encoded (p .closing)) × (x ≡ said f p) × Fair f p
-  unfolding structure frontOf said
+  unfolding structure inFront said
   structure-said x rest e =
       let t = then-got _ _ _ _ e in
       let g = giving-got _ _ _ _ (t .one) in
@@ -108,7 +108,7 @@ module _ (f : Form) (p : Parts) (s : Shaped f p) where
       (o .0, r .0, w .2 ∙ ap (λ (rs : List (Numbered (f .Row))). record { front = saidFront f p; lists = f .says rs }) (r .1), r .2)
 
   structure-back : f .head .zeros (p .head) ≡ true → Fair f p → structure f (f .header .look (p .header)) (behindHeader f p) ≡ got (said f p) (encoded (p .closing))
-  unfolding structure frontOf said andThen giving
+  unfolding structure inFront said andThen giving
   structure-back z fair =
       rw (own-so (f .head) (λ h. true) (p .head) (s .head) tail z refl)
       (rows-are ∙ ap (giving (λ (rs : List (Numbered (f .Row))). record { front = saidFront f p; lists = f .says rs })) (records-back (laidOut f p) (p .pieces) (s .sized) (saidFront f p .first) (encoded (p .closing)) fair))
@@ -209,7 +209,7 @@ rows-split f x y own behind rest rs n is e =
     record { head = own; pieces = r .0; headed = n; sized = r .1; count = r .2; is = ap (λ (l : List ℕ). own ++ l) (r .3) }
 
 structure-split : (f : Form) (x : Front) (bs rest : List ℕ) (z : Structure) → structure f x bs ≡ got z rest → Rows f x bs rest
-unfolding structure frontOf from
+unfolding structure inFront from
 structure-split f x bs rest z e =
     let t = then-got _ _ _ _ e in
     let g = giving-got _ _ _ _ (t .one) in

@@ -14,7 +14,7 @@ use Rattle.rules.specs.Bytes.{Got, refused, got, unless, andThen, giving
 use Rattle.rules.specs.Descriptors.{Descriptor, descriptor, passed, counted}
 use Rattle.rules.specs.Layout.{Block, extent, taken, Layout, entry, after, records}
 use Rattle.rules.specs.Form.{Front, Form}
-use Rattle.rules.specs.Section.{Structure, frontOf, structure}
+use Rattle.rules.specs.Section.{Structure, inFront, structure}
 use Rattle.rules.proofs.Taken.{unless-got}
 
 pub from-from : (b : List ℕ) (n m : ℕ) → from (from b n) m ≡ from b (n + m)
@@ -131,9 +131,9 @@ ends-records l (suc n) index bs =
     (λ r rest. ends-giving rest (λ rs. r ∷ rs) (records l n (after l r) rest) (ends-records l n (after l r) rest))
 
 ends-structure : (f : Form) (x : Front) (bs : List ℕ) → Ends (structure f x bs) bs
-unfolding structure frontOf
+unfolding structure inFront
 ends-structure f x bs =
-    ends-then bs (frontOf f x bs) _ (ends-giving bs (f .joined x) (taken (f .head) (λ h. true) bs) (ends-taken (f .head) (λ h. true) bs))
+    ends-then bs (inFront f x bs) _ (ends-giving bs (f .joined x) (taken (f .head) (λ h. true) bs) (ends-taken (f .head) (λ h. true) bs))
     (λ y rest. ends-giving rest _ (records (f .layout y) (y .count) (y .first) rest) (ends-records (f .layout y) (y .count) (y .first) rest))
 
 -- what a structure leaves, behind a header, stands at the place that its length says

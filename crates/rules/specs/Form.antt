@@ -56,7 +56,7 @@ pub record Form : Type 1 where
   pub Row : Type 0
   pub layout : Front → Layout Row
   pub says : List (Numbered Row) → Plant
-  pub listed : Plant → List (Numbered Row)
+  pub rowsIn : Plant → List (Numbered Row)
 
 -- byte 3: 3 zero bits, 5 bits protocol version
 unfoldable pub protocolZeros : List ℕ → Bool
@@ -75,7 +75,7 @@ noHead = fixed 0 (λ r. true) (λ r. tt)
 -- refusal 10: first index 0
 abbrev pub network : {R : Type 0} → (subtype : ℕ) → Layout R → (List (Numbered R) → Plant) → (Plant → List (Numbered R))
     → Form
-network {R} subtype layout says listed =
+network {R} subtype layout says rowsIn =
     record {
       number = 0xC2;
       medium = 6;
@@ -89,7 +89,7 @@ network {R} subtype layout says listed =
       Row = R;
       layout = λ x. layout;
       says = says;
-      listed = listed;
+      rowsIn = rowsIn;
     }
 
 -- "0xC4: 4 bits medium, 4 bits subtype, 16 bits map number, then the structure"
@@ -100,7 +100,7 @@ mapHeader =
 
 abbrev pub channelTable : {H R : Type 0} → (subtype : ℕ) → Block H → (Front → H → Front) → (Front → Layout R)
     → (List (Numbered R) → Plant) → (Plant → List (Numbered R)) → Form
-channelTable {H} {R} subtype head joined layout says listed =
+channelTable {H} {R} subtype head joined layout says rowsIn =
     record {
       number = 0xC4;
       medium = 4;
@@ -114,7 +114,7 @@ channelTable {H} {R} subtype head joined layout says listed =
       Row = R;
       layout = layout;
       says = says;
-      listed = listed;
+      rowsIn = rowsIn;
     }
 
 -- ---- "Four tables: the carrier (CDS) and modulation (MMS) subtables of the Network Information Table, 0xC2, subtypes 1 and 2; the

@@ -10,7 +10,7 @@ use lib.ListN.{take}
 use Rattle.rules.specs.Bytes.{got, from}
 use Rattle.rules.specs.Layout.{extent, taken, Layout, Numbered, records}
 use Rattle.rules.specs.Form.{Front, form}
-use Rattle.rules.specs.Section.{headerOf, Structure, frontOf, structure, Content, right, withoutCrc, readSection, recordsAt}
+use Rattle.rules.specs.Section.{headerOf, Structure, inFront, structure, Content, right, withoutCrc, readSection, recordsAt}
 use Rattle.rules.specs.Holding.{sectionAt, holdingOf, liveAt, readFor}
 use Rattle.rules.specs.Tuning.{liveCount, liveReading, recordsIn, liveSection}
 use Rattle.rules.specs.declared.Table.{Table}
@@ -39,7 +39,7 @@ layout-by Dcm y = refl
 -- the records of a structure stand where the walk begins
 walk-reads : (t : Table) (bs : List ℕ) (front : Front) (behind : List ℕ) (x : Structure) (tail : List ℕ) → taken (headerOf (form t)) (form t .limits) bs ≡ got front behind → structure (form t) front behind ≡ got x tail
     → let w = walkOf t bs in records (layoutOf t (w .included)) (w .count) (w .index) (from bs (w .at)) ≡ got (recordsOf t x) tail
-unfolding walkOf frontAt recordsAt structure frontOf
+unfolding walkOf frontAt recordsAt structure inFront
 walk-reads t bs front behind x tail e q =
     let f = form t in
     let n = extent (headerOf f) bs in
@@ -51,7 +51,7 @@ walk-reads t bs front behind x tail e q =
     let y : s .value ≡ frontAt t bs =
     g .2 ∙ ap (f .joined front) (h .is ∙ ap (λ (l : List ℕ). f .head .look (take (extent (f .head) l) l)) (k .behind)) ∙ ap (λ (z : Front). f .joined z (f .head .look (take (extent (f .head) (from bs n)) (from bs n)))) (k .is) in
     let at : s .behind ≡ from bs (recordsAt t bs) = h .behind ∙ ap (λ (l : List ℕ). from l (extent (f .head) l)) (k .behind) ∙ from-from bs n _ in
-    let listed : f .listed (x .lists) ≡ r .0 = ap (λ (z : Structure). f .listed (z .lists)) (r .2) ∙ formal t .lists (r .0) in
+    let listed : f .rowsIn (x .lists) ≡ r .0 = ap (λ (z : Structure). f .rowsIn (z .lists)) (r .2) ∙ formal t .lists (r .0) in
     ap (λ (l : Layout (f .Row)). records l (frontAt t bs .count) (frontAt t bs .first) (from bs (recordsAt t bs))) (sym (layout-by t (frontAt t bs)))
     ∙ ap (λ (z : Front). records (f .layout z) (z .count) (z .first) (from bs (recordsAt t bs))) (sym y)
     ∙ ap (records (f .layout (s .value)) (s .value .count) (s .value .first)) (sym at)

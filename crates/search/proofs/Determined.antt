@@ -20,7 +20,7 @@ use prog.Wp.{Heap}
 use Rattle.rules.specs.declared.Table.{Table}
 use Rattle.rules.specs.declared.State.{State}
 use Rattle.rules.proofs.Determined.{Determined, determined-by, both-say}
-use Rattle.search.specs.Listing.{named, Lists}
+use Rattle.search.specs.Listing.{recordNamed, Lists}
 use Rattle.search.proofs.find_carrier
 use Rattle.search.proofs.find_mode
 use Rattle.search.proofs.find_channel
@@ -42,9 +42,9 @@ module _ {A : Type 0} (name : ℕ → A) where
       cc
 
 -- two listings of a table have entries that name the same
-lists-once : (s : State) (store : List ℕ) (t : Table) (xs ys : List ℕ) (n : ℕ) → Lists s store t xs → length xs ≡ n → Lists s store t ys → length ys ≡ n → map (named t store) xs ≡ map (named t store) ys
+lists-once : (s : State) (store : List ℕ) (t : Table) (xs ys : List ℕ) (n : ℕ) → Lists s store t xs → length xs ≡ n → Lists s store t ys → length ys ≡ n → map (recordNamed t store) xs ≡ map (recordNamed t store) ys
 lists-once s store t xs ys n l e m f =
-    same-all (named t store) xs ys (e ∙ sym f) (λ i k. l .names i k ∙ sym (m .names i (omega arith)))
+    same-all (recordNamed t store) xs ys (e ∙ sym f) (λ i k. l .names i k ∙ sym (m .names i (omega arith)))
 
 module _ {M : Type 1} (𝓤 : URA M) (H : Heap 𝓤) (A : Atoms 𝓤) (mem : Memory → SProp 𝓤) (run : Routine → Fun 𝓤) where
   pub find_carrier-determined : Determined 𝓤 {T = find_carrier.ended} (find_carrier.clauses 𝓤 H A mem run) (λ κs r e. r)
@@ -77,7 +77,7 @@ module _ {M : Type 1} (𝓤 : URA M) (H : Heap 𝓤) (A : Atoms 𝓤) (mem : Mem
       (κs : Lfts (list_records.ended .signature .lifetimes)) (a : Args (list_records.ended .signature) κs) (g : list_records.clauses 𝓤 H A mem run κs a .ghost)
       (r r′ : Res (list_records.ended .signature) κs) (e e′ : AtExit list_records.ended κs)
       → ent 𝓤 (sep 𝓤 (list_records.clauses 𝓤 H A mem run κs a .ensures g r e) (list_records.clauses 𝓤 H A mem run κs a .ensures g r′ e′))
-      (fact 𝓤 (map (named (a .1 .1 .0) (now (a .1 .0))) (now (e .1 .1 .1 .0)) ≡ map (named (a .1 .1 .0) (now (a .1 .0))) (now (e′ .1 .1 .1 .0))))
+      (fact 𝓤 (map (recordNamed (a .1 .1 .0) (now (a .1 .0))) (now (e .1 .1 .1 .0)) ≡ map (recordNamed (a .1 .1 .0) (now (a .1 .0))) (now (e′ .1 .1 .1 .0))))
   list_records-determined κs a g r r′ e e′ =
       let P = list_records.clauses 𝓤 H A mem run κs a .ensures g r e in
       let Q = list_records.clauses 𝓤 H A mem run κs a .ensures g r′ e′ in

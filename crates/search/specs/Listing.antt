@@ -36,16 +36,16 @@ spanOf Dcm index bs =
     record { first = index; count = r .count; takes = r .count }
 
 -- the record that an entry names: none by 0, else by one less a place in the store (low 32 bits) and the record's index
-unfoldable pub named : (t : Table) → (store : List ℕ) → (entry : ℕ) → Option (Numbered (RecordOf t))
-named t store zero = none
-named t store (suc n) =
+unfoldable pub recordNamed : (t : Table) → (store : List ℕ) → (entry : ℕ) → Option (Numbered (RecordOf t))
+recordNamed t store zero = none
+recordNamed t store (suc n) =
     let bs = from store (n % 2 ^ 32) in
     some (record { index = n / 2 ^ 32; what = layoutOf t 0 .block .look (take (extent (layoutOf t 0 .block) bs) bs) })
 
 -- each entry names the first live record that goes by its number
 pub record Lists (s : State) (store : List ℕ) (t : Table) (entries : List ℕ) : Type 0 where
   pub names : (number : ℕ) → number < length entries
-      → named t store (getD entries number 0) ≡ first (testOf t number) (liveRecords (recordsOf t) s store t)
+      → recordNamed t store (getD entries number 0) ≡ first (testOf t number) (liveRecords (recordsOf t) s store t)
 
 -- no entry names a record
 pub record Blank (entries : List ℕ) : Type 0 where

@@ -42,7 +42,7 @@ layoutOf t included =
     form t .layout (record { map = 0; first = 0; count = 0; included = included; splice = 0; time = 0 })
 
 abbrev pub recordsOf : (t : Table) → Structure → List (Numbered (RecordOf t))
-recordsOf t x = form t .listed (x .lists)
+recordsOf t x = form t .rowsIn (x .lists)
 
 -- what stands in front of the records of a section that reads right
 unfoldable pub frontAt : Table → List ℕ → Front

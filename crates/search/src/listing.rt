@@ -10,7 +10,7 @@ ghost use Rattle.rules.specs.Tuning.{definedBy};
 ghost use Rattle.rules.specs.declared.Table.the-variants as table;
 ghost use Rattle.fields.specs.Place.{Stands};
 ghost use Rattle.search.specs.Live.{Live, layoutOf, carrierFound, modeFound, channelFound};
-ghost use Rattle.search.specs.Listing.{spanOf, named, Lists, Blank, Marked, Entered};
+ghost use Rattle.search.specs.Listing.{spanOf, recordNamed, Lists, Blank, Marked, Entered};
 use crate::CarrierFound;
 use crate::ChannelFound;
 use crate::ModeFound;
@@ -161,7 +161,7 @@ fn place_in(entry: u64) -> usize
 
 // The frequency in kHz of the carrier of an index.
 pub fn listed_carrier(store: &[u8], entries: &[u64], index: u8) -> CarrierFound
-    ensures { λ r. ⌜ r ≡ carrierFound index (named table.Cds (now (store .entry)) (getD (now (entries .entry)) index 0)) ⌝ }
+    ensures { λ r. ⌜ r ≡ carrierFound index (recordNamed table.Cds (now (store .entry)) (getD (now (entries .entry)) index 0)) ⌝ }
 {
     let entry = entry_at(entries, index as usize);
     if entry == 0 {
@@ -174,7 +174,7 @@ pub fn listed_carrier(store: &[u8], entries: &[u64], index: u8) -> CarrierFound
 
 // The mode of an index.
 pub fn listed_mode(store: &[u8], entries: &[u64], index: u8) -> ModeFound
-    ensures { λ r. ⌜ r ≡ modeFound (named table.Mms (now (store .entry)) (getD (now (entries .entry)) index 0)) ⌝ }
+    ensures { λ r. ⌜ r ≡ modeFound (recordNamed table.Mms (now (store .entry)) (getD (now (entries .entry)) index 0)) ⌝ }
 {
     let entry = entry_at(entries, index as usize);
     if entry == 0 {
@@ -185,7 +185,7 @@ pub fn listed_mode(store: &[u8], entries: &[u64], index: u8) -> ModeFound
 
 // The record of a channel.
 pub fn listed_channel(store: &[u8], entries: &[u64], number: u16) -> ChannelFound
-    ensures { λ r. ⌜ r ≡ channelFound (named table.Vcm (now (store .entry)) (getD (now (entries .entry)) number 0)) ⌝ }
+    ensures { λ r. ⌜ r ≡ channelFound (recordNamed table.Vcm (now (store .entry)) (getD (now (entries .entry)) number 0)) ⌝ }
 {
     let entry = entry_at(entries, number as usize);
     if entry == 0 {
@@ -196,7 +196,7 @@ pub fn listed_channel(store: &[u8], entries: &[u64], number: u16) -> ChannelFoun
 
 // Whether the first range that covers a channel defines it.
 pub fn listed_defined(store: &[u8], entries: &[u64], number: u16) -> bool
-    ensures { λ r. ⌜ r ≡ definedBy (named table.Dcm (now (store .entry)) (getD (now (entries .entry)) number 0)) ⌝ }
+    ensures { λ r. ⌜ r ≡ definedBy (recordNamed table.Dcm (now (store .entry)) (getD (now (entries .entry)) number 0)) ⌝ }
 {
     let entry = entry_at(entries, number as usize);
     if entry == 0 {

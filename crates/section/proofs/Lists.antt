@@ -14,7 +14,7 @@ use Rattle.rules.specs.declared.Revision.{Revision}
 use Rattle.rules.specs.declared.Asked.the-variants as asked
 use Rattle.rules.proofs.Closing.{closing-end, closing-got, closing-no}
 use Rattle.fields.specs.Place.{Stands}
-use Rattle.section.specs.Closes.{closedOf, seenOf, seenWith, listed, firstIn, Lone}
+use Rattle.section.specs.Closes.{closedOf, seenOf, seenWith, filled, firstIn, Lone}
 use Rattle.fields.specs.declared.Skip.{Skip}
 use Rattle.fields.specs.declared.Skip.the-variants.{At}
 use Rattle.section.specs.declared.closing.Seen.{Seen}
@@ -95,32 +95,32 @@ close-lone b at one =
 
 -- ---- the first descriptor of a tag, in a list that is whole
 
-pub first-never : (b : List ℕ) (at : ℕ) → at < length b → (n : ℕ) → descriptor (from b at) ≡ refused n → listed (closing (from b at)) ≡ true → ⊥
-unfolding listed
+pub first-never : (b : List ℕ) (at : ℕ) → at < length b → (n : ℕ) → descriptor (from b at) ≡ refused n → filled (closing (from b at)) ≡ true → ⊥
+unfolding filled
 first-never b at h n e w =
     let f : false ≡ true = rw (closing-no (from b at) n (omega (arith, from-length b at)) e) at w in
     let z : _≡_ {A = ℕ} 0 1 = cc in
     omega arith
 
-listed-giving : {A B : Type 0} (f : A → B) (g : Got A) → listed (giving f g) ≡ listed g
-unfolding listed giving
+listed-giving : {A B : Type 0} (f : A → B) (g : Got A) → filled (giving f g) ≡ filled g
+unfolding filled giving
 listed-giving f (refused n) = refl
 listed-giving f (got a rest) = refl
 
-pub listed-on : (b : List ℕ) (at i : ℕ) → Here b at i → listed (closing (from b at)) ≡ true → listed (closing (from b i)) ≡ true
-listed-on b at i h w = sym (listed-giving (λ ds. descAt b at ∷ ds) (closing (from b i))) ∙ ap listed (sym (closing-got _ _ _ (h .is))) ∙ w
+pub listed-on : (b : List ℕ) (at i : ℕ) → Here b at i → filled (closing (from b at)) ≡ true → filled (closing (from b i)) ≡ true
+listed-on b at i h w = sym (listed-giving (λ ds. descAt b at ∷ ds) (closing (from b i))) ∙ ap filled (sym (closing-got _ _ _ (h .is))) ∙ w
 
 module _ (b : List ℕ) (at tag : ℕ) where
   pub first-end : length b ≤ at → firstIn tag at (closing (from b at)) ≡ asked.Absent
   unfolding firstIn firstOf
   first-end h = rw (closing-end (from b at) (omega (arith, from-length b at)))
 
-  first-giving : (g : Got (List Descriptor)) → listed g ≡ true → firstIn tag at (giving (λ ds. descAt b at ∷ ds) g) ≡ cond (eqb (byte at b) tag) (asked.There (at + 2) (length (descAt b at .body))) (firstIn tag (at + 2 + length (descAt b at .body)) g)
-  unfolding firstIn firstOf giving listed
+  first-giving : (g : Got (List Descriptor)) → filled g ≡ true → firstIn tag at (giving (λ ds. descAt b at ∷ ds) g) ≡ cond (eqb (byte at b) tag) (asked.There (at + 2) (length (descAt b at .body))) (firstIn tag (at + 2 + length (descAt b at .body)) g)
+  unfolding firstIn firstOf giving filled
   first-giving (refused n) e = let z : _≡_ {A = ℕ} 0 1 = cc in absurd (omega arith)
   first-giving (got ds rest) e = refl
 
-  module _ (i : ℕ) (h : Here b at i) (w : listed (closing (from b at)) ≡ true) where
+  module _ (i : ℕ) (h : Here b at i) (w : filled (closing (from b at)) ≡ true) where
     body-size : length (descAt b at .body) ≡ byte (at + 1) b
     body-size = length-take (byte (at + 1) b) (from b (at + 2)) ∙ omega (arith, h .next, h .within, from-length b (at + 2))
 

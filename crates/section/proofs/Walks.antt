@@ -13,7 +13,7 @@ use Rattle.rules.specs.Descriptors.{counted}
 use Rattle.rules.specs.Layout.{extent, taken, Numbered, entry, after, records}
 use Rattle.rules.specs.Tables.{vcmHeadZeros, vcmHeadOf, vcmHead, channelFair, vcm, dcmHeadZeros, dcmHeadOf, dcmHead}
 use Rattle.rules.specs.Form.{Front, Form, countedHeader, noHead, mapHeader, form}
-use Rattle.rules.specs.Section.{headerOf, Structure, frontOf, structure, recordsAt}
+use Rattle.rules.specs.Section.{headerOf, Structure, inFront, structure, recordsAt}
 use Rattle.rules.specs.declared.Table.{Table}
 use Rattle.rules.specs.declared.Table.the-variants.{Cds, Mms, Vcm, Dcm}
 use Rattle.rules.specs.declared.Channel.{Channel}
@@ -100,25 +100,25 @@ giving-giving f k (refused n) = refl
 giving-giving f k (got a rest) = refl
 
 -- what a head leaves stands behind its bytes
-head-place : (t : Table) (b : List ℕ) (y : Front) (rest : List ℕ) → 7 ≤ length b → frontOf (form t) (headedAs t b .front) (behindHeader t b) ≡ got y rest → (rest ≡ from b (recordsAt t b)) × (recordsAt t b ≤ length b)
-unfolding frontOf recordsAt
+head-place : (t : Table) (b : List ℕ) (y : Front) (rest : List ℕ) → 7 ≤ length b → inFront (form t) (headedAs t b .front) (behindHeader t b) ≡ got y rest → (rest ≡ from b (recordsAt t b)) × (recordsAt t b ≤ length b)
+unfolding inFront recordsAt
 head-place t b y rest w e =
     let g = giving-got _ _ _ _ e in
     let h = taken-got (form t .head) (λ h. true) (behindHeader t b) (g .0) rest (g .1) in
     let n = extent (headerOf (form t)) b in
     (h .behind ∙ from-from b n _, omega (arith, h .fits, from-length b n, seven t b))
 
-structure-at : (f : Form) (x y : Front) (bs rest : List ℕ) → frontOf f x bs ≡ got y rest → structure f x bs ≡ giving (λ rs. record { front = y; lists = f .says rs }) (records (f .layout y) (y .count) (y .first) rest)
+structure-at : (f : Form) (x y : Front) (bs rest : List ℕ) → inFront f x bs ≡ got y rest → structure f x bs ≡ giving (λ rs. record { front = y; lists = f .says rs }) (records (f .layout y) (y .count) (y .first) rest)
 unfolding structure andThen
 structure-at f x y bs rest e = rw e
 
-structure-no : (f : Form) (x : Front) (bs : List ℕ) (n : ℕ) → frontOf f x bs ≡ refused n → structure f x bs ≡ refused n
+structure-no : (f : Form) (x : Front) (bs : List ℕ) (n : ℕ) → inFront f x bs ≡ refused n → structure f x bs ≡ refused n
 unfolding structure andThen
 structure-no f x bs n e = rw e
 
 -- the outline says where the records of the structure stand
 module _ (t : Table) (b : List ℕ) (w : 7 ≤ length b) where
-  by-front : (g : Got Front) → frontOf (form t) (headedAs t b .front) (behindHeader t b) ≡ g → outlined t b (outlinedBy t b g)
+  by-front : (g : Got Front) → inFront (form t) (headedAs t b .front) (behindHeader t b) ≡ g → outlined t b (outlinedBy t b g)
   unfolding outlinedBy
   by-front (refused n) e = structure-no (form t) _ _ n e
   by-front (got y rest) e =
@@ -132,7 +132,7 @@ module _ (t : Table) (b : List ℕ) (w : 7 ≤ length b) where
 
   outline-says : outlined t b (outlineOf t b)
   unfolding outlineOf
-  outline-says = by-front (frontOf (form t) (headedAs t b .front) (behindHeader t b)) refl
+  outline-says = by-front (inFront (form t) (headedAs t b .front) (behindHeader t b)) refl
 
   module _ (r : Outline) (o : r ≡ outlineOf t b) where
     pub outlined-no : (n : ℕ) → r ≡ outline.Refused n → structure (form t) (headedAs t b .front) (behindHeader t b) ≡ refused n
@@ -155,7 +155,7 @@ module _ (t : Table) (b : List ℕ) (k : Kind) (start first count : ℕ) (a : Ar
       go (got x rest) q = let z : _≡_ {A = ℕ} 0 1 = cc in absurd (omega arith)
 
   map-kept : (x : Structure) (rest : List ℕ) → whole ≡ got x rest → headedAs t b .front .map ≡ x .front .map
-  unfolding structure frontOf
+  unfolding structure inFront
   map-kept x rest e =
       let s = then-got _ _ _ _ e in
       let h = giving-got _ _ _ _ (s .one) in
@@ -174,25 +174,25 @@ module _ (t : Table) (b : List ℕ) (k : Kind) (start first count : ℕ) (a : Ar
 -- CDS and MMS have no head
 module _ (b : List ℕ) where
   pub cds-outline : (first count : ℕ) → first ≡ byte 4 b → count ≡ byte 5 b → outline.Records Carriers 7 first count ≡ outlineOf Cds b
-  unfolding outlineOf outlinedBy frontOf kindOf recordsAt taken unless giving headerOf countedHeader noHead
+  unfolding outlineOf outlinedBy inFront kindOf recordsAt taken unless giving headerOf countedHeader noHead
   cds-outline first count e f = rw (le-leb 0 (length (from b 7)) (omega arith), header-byte b 1 (omega arith), header-byte b 2 (omega arith), e, f)
 
   pub mms-outline : (first count : ℕ) → first ≡ byte 4 b → count ≡ byte 5 b → outline.Records Modes 7 first count ≡ outlineOf Mms b
-  unfolding outlineOf outlinedBy frontOf kindOf recordsAt taken unless giving headerOf countedHeader noHead
+  unfolding outlineOf outlinedBy inFront kindOf recordsAt taken unless giving headerOf countedHeader noHead
   mms-outline first count e f = rw (le-leb 0 (length (from b 7)) (omega arith), header-byte b 1 (omega arith), header-byte b 2 (omega arith), e, f)
 
   pub vcm-no : (n : ℕ) → taken vcmHead (λ h. true) (from b 7) ≡ refused n → outline.Refused n ≡ outlineOf Vcm b
-  unfolding outlineOf outlinedBy frontOf giving headerOf mapHeader
+  unfolding outlineOf outlinedBy inFront giving headerOf mapHeader
   vcm-no n e = rw e
 
   pub vcm-so : (h : VcmHead) → 7 ≤ length b - 7 → h ≡ vcmHeadOf (take 7 (from b 7)) → vcmHeadZeros (take 7 (from b 7)) ≡ true → outline.Records (Channels (h .included)) 14 0 (h .count) ≡ outlineOf Vcm b
-  unfolding outlineOf outlinedBy frontOf kindOf recordsAt giving headerOf mapHeader vcmHead
+  unfolding outlineOf outlinedBy inFront kindOf recordsAt giving headerOf mapHeader vcmHead
   vcm-so h n e z = rw (taken-here vcmHead (λ h. true) b 7 n z refl, e)
 
   pub dcm-no : (n : ℕ) → taken dcmHead (λ h. true) (from b 7) ≡ refused n → outline.Refused n ≡ outlineOf Dcm b
-  unfolding outlineOf outlinedBy frontOf giving headerOf mapHeader
+  unfolding outlineOf outlinedBy inFront giving headerOf mapHeader
   dcm-no n e = rw e
 
   pub dcm-so : (h : DcmHead) → 3 ≤ length b - 7 → h ≡ dcmHeadOf (take 3 (from b 7)) → dcmHeadZeros (take 3 (from b 7)) ≡ true → outline.Records Ranges 10 (h .first) (h .count) ≡ outlineOf Dcm b
-  unfolding outlineOf outlinedBy frontOf kindOf recordsAt giving headerOf mapHeader dcmHead
+  unfolding outlineOf outlinedBy inFront kindOf recordsAt giving headerOf mapHeader dcmHead
   dcm-so h n e z = rw (taken-here dcmHead (λ h. true) b 7 n z refl, e)

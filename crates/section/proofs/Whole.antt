@@ -21,8 +21,8 @@ use Rattle.rules.proofs.Taken.{then-got, taken-got}
 use Rattle.rules.proofs.Closing.{closing-size}
 use Rattle.rules.proofs.Places.{from-length}
 use Rattle.rules.proofs.Right.{header-got, reads-right, closing-place}
-use Rattle.section.specs.Closes.{closedAs, closedOf, listed, firstIn}
-use Rattle.section.specs.Reads.{namedAs, headerAs, headedAs, behindHeader, shown}
+use Rattle.section.specs.Closes.{closedAs, closedOf, filled, firstIn}
+use Rattle.section.specs.Reads.{namedAs, headerAs, headedAs, behindHeader, answeredAs}
 use Rattle.section.specs.declared.header.Named.the-variants as named
 use Rattle.section.specs.declared.header.Header.the-variants as header
 use Rattle.section.specs.declared.closing.Closed.the-variants as closed
@@ -84,9 +84,9 @@ header-is b t e =
 
 -- ---- the content
 
-pub shown-no : (b : List ℕ) (n : ℕ) (g : Got Content) → g ≡ refused n → reads.Refused n ≡ shown b g
-unfolding shown
-shown-no b n g e = sym (ap (shown b) e)
+pub shown-no : (b : List ℕ) (n : ℕ) (g : Got Content) → g ≡ refused n → reads.Refused n ≡ answeredAs b g
+unfolding answeredAs
+shown-no b n g e = sym (ap (answeredAs b) e)
 
 pub content-unheaded : (b : List ℕ) (n : ℕ) → header b ≡ refused n → content b ≡ refused n
 unfolding content andThen
@@ -139,8 +139,8 @@ module _ (t : Table) (b : List ℕ) where
     list-got r q = let c = closed-got _ r q in let d = then-got _ _ _ _ (c .1) in (d .value, d .behind, c .0, d .one, d .more)
 
     pub content-so : at ≤ length b → (r : Revision) → closed.Revised r ≡ closedAs (closedOf (from b at)) → (map start count : ℕ) → map ≡ x .front .map → start ≡ recordsAt t b → count ≡ x .front .count
-        → reads.Right (record { table = t; map = map; revision = r; records = start; count = count; closing = at }) ≡ shown b contentIn
-    unfolding shown headOf
+        → reads.Right (record { table = t; map = map; revision = r; records = start; count = count; closing = at }) ≡ answeredAs b contentIn
+    unfolding answeredAs headOf
     content-so h r q map start count m a n =
         let l = list-got r q in
         let p = place-of h (l .0) (l .1) (l .3) in
@@ -175,11 +175,11 @@ module _ (s : List ℕ) where
   unfolding readSection read readAs
   reads-no n e = rw e
 
-  pub reads-content : whole s ≡ content (withoutCrc s) → shown (withoutCrc s) (content (withoutCrc s)) ≡ readAs s (readSection s)
-  unfolding readSection shown read readAs
+  pub reads-content : whole s ≡ content (withoutCrc s) → answeredAs (withoutCrc s) (content (withoutCrc s)) ≡ readAs s (readSection s)
+  unfolding readSection answeredAs read readAs
   reads-content e = go (content (withoutCrc s)) ∙ ap (λ (g : Got Content). readAs s (read g)) (sym e)
     where
-      go : (g : Got Content) → shown (withoutCrc s) g ≡ readAs s (read g)
+      go : (g : Got Content) → answeredAs (withoutCrc s) g ≡ readAs s (read g)
       go (refused n) = refl
       go (got c rest) = refl
 
@@ -211,9 +211,9 @@ module _ (s : List ℕ) where
         let p = closing-place (withoutCrc s) (found .0) (reads-right s (found .0) (found .1) .made) in
         (p .0, ap (λ (at : ℕ). closing (from (withoutCrc s) at)) (found .2) ∙ p .1)
 
-    pub ask-listed : listed (closing (from (withoutCrc s) (h .closing))) ≡ true
-    unfolding listed
-    ask-listed = ap listed (list .1)
+    pub ask-listed : filled (closing (from (withoutCrc s) (h .closing))) ≡ true
+    unfolding filled
+    ask-listed = ap filled (list .1)
 
     pub ask-first : (tag : ℕ) → firstIn tag (h .closing) (closing (from (withoutCrc s) (h .closing))) ≡ ask tag s
     unfolding ask askedOf firstIn

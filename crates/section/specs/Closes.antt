@@ -35,9 +35,9 @@ seenWith (Once s n) start size = Again
 seenWith Again start size = Again
 
 -- a closing list that fills its room
-unfoldable pub listed : {A : Type 0} → Got A → Bool
-listed (refused n) = false
-listed (got a rest) = true
+unfoldable pub filled : {A : Type 0} → Got A → Bool
+filled (refused n) = false
+filled (got a rest) = true
 
 unfoldable pub firstIn : (tag at : ℕ) → Got (List Descriptor) → Asked
 firstIn tag at (refused n) = asked.Refused n

@@ -5,7 +5,7 @@ use Rattle.rules.specs.Bytes.{Got, refused, got}
 use Rattle.rules.specs.Layout.{Layout}
 use Rattle.rules.specs.Tables.{cds, mms, vcm, dcm}
 use Rattle.rules.specs.Form.{Front, form}
-use Rattle.rules.specs.Section.{frontOf, recordsAt}
+use Rattle.rules.specs.Section.{inFront, recordsAt}
 use Rattle.section.specs.Reads.{headedAs, behindHeader}
 use Rattle.rules.specs.declared.Table.{Table}
 use Rattle.rules.specs.declared.Table.the-variants.{Cds, Mms, Vcm, Dcm}
@@ -43,4 +43,4 @@ outlinedBy t b (got y rest) = outline.Records (kindOf t y) (recordsAt t b) (y .f
 
 -- of the section without its CRC: kind, place, first index or channel, and count of its records
 unfoldable pub outlineOf : Table → List ℕ → Outline
-outlineOf t b = outlinedBy t b (frontOf (form t) (headedAs t b .front) (behindHeader t b))
+outlineOf t b = outlinedBy t b (inFront (form t) (headedAs t b .front) (behindHeader t b))

@@ -32,6 +32,6 @@ abbrev pub behindHeader : Table → List ℕ → List ℕ
 behindHeader t b = from b (extent (headerOf (form t)) b)
 
 -- the reader's answer, of the section without its CRC
-unfoldable pub shown : List ℕ → Got Content → Read
-shown b (refused n) = read.Refused n
-shown b (got c rest) = read.Right (headOf b c)
+unfoldable pub answeredAs : List ℕ → Got Content → Read
+answeredAs b (refused n) = read.Refused n
+answeredAs b (got c rest) = read.Right (headOf b c)

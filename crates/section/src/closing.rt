@@ -5,7 +5,7 @@ ghost use mathlib.Core.List.{[], _∷_};
 ghost use Rattle.rules.specs.Bytes.{from};
 ghost use Rattle.rules.specs.Descriptors.{closing};
 ghost use Rattle.rules.specs.Section.{revision};
-ghost use Rattle.section.specs.Closes.{closedAs, closedOf, seenOf, seenWith, listed, firstIn, Lone};
+ghost use Rattle.section.specs.Closes.{closedAs, closedOf, seenOf, seenWith, filled, firstIn, Lone};
 use fields::Skip;
 use rules::Asked;
 use rules::Revision;
@@ -113,7 +113,7 @@ pub fn close(b: &[u8], start: usize) -> Closed
 
 // The first descriptor of a tag in a closing list that is whole.
 pub fn first_of(b: &[u8], start: usize, tag: u8) -> Asked
-    requires { ⌜ listed (closing (from (now b) start)) ≡ true ⌝ }
+    requires { ⌜ filled (closing (from (now b) start)) ≡ true ⌝ }
     ensures { λ r. ⌜ r ≡ firstIn tag start (closing (from (now (b .entry)) start)) ⌝ }
 {
     let mut at = start;

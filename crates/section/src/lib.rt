@@ -4,7 +4,7 @@ ghost use Prim.Native.Nat.{_≤_};
 ghost use lib.ListN.{length};
 ghost use Rattle.rules.specs.Section.{isNumber, fitting, contentOf, content, readSection, readAs, ask, partOf};
 ghost use Rattle.rules.specs.Said.{readSaid, askedSaid, sectionSaid, askSaid};
-ghost use Rattle.section.specs.Reads.{headedAs, behindHeader, shown};
+ghost use Rattle.section.specs.Reads.{headedAs, behindHeader, answeredAs};
 use closing::Closed;
 use fields::Skip;
 use header::Header;
@@ -45,7 +45,7 @@ fn is_table_number(number: u8) -> bool
 // Behind the header: the structure, then the closing list.
 fn structured(t: Table, b: &[u8]) -> Read
     requires { ⌜ 7 ≤ length (now b) ⌝ }
-    ensures { λ r. ⌜ r ≡ shown (now (b .entry)) (contentOf (headedAs t (now (b .entry))) (behindHeader t (now (b .entry)))) ⌝ }
+    ensures { λ r. ⌜ r ≡ answeredAs (now (b .entry)) (contentOf (headedAs t (now (b .entry))) (behindHeader t (now (b .entry)))) ⌝ }
 {
     let outline = structure::outline_of(t, b);
     match outline {
@@ -80,7 +80,7 @@ fn structured(t: Table, b: &[u8]) -> Read
 
 // The section without its CRC, front to back.
 fn content_of(b: &[u8]) -> Read
-    ensures { λ r. ⌜ r ≡ shown (now (b .entry)) (content (now (b .entry))) ⌝ }
+    ensures { λ r. ⌜ r ≡ answeredAs (now (b .entry)) (content (now (b .entry))) ⌝ }
 {
     let header = header::header_of(b);
     match header {

@@ -30,8 +30,8 @@ frontOf number kind hidden path =
 
 -- ---- what several lines begin with
 
-unfoldable pub placeOf : (number : ℕ) → (kind : List ℕ) → (hidden path khz : ℕ) → List ℕ
-placeOf number kind hidden path khz = frontOf number kind hidden path ++ fieldOf (text " khz=") khz
+unfoldable pub khzFront : (number : ℕ) → (kind : List ℕ) → (hidden path khz : ℕ) → List ℕ
+khzFront number kind hidden path khz = frontOf number kind hidden path ++ fieldOf (text " khz=") khz
 
 unfoldable pub codingFields : (system inner split : ℕ) → List ℕ
 codingFields system inner split =

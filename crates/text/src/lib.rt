@@ -6,7 +6,7 @@ ghost use mathlib.Core.List.{[], _∷_, _++_, flatten};
 ghost use lib.ListN.{length};
 ghost use Rattle.rules.specs.Lineup.{text, decimal, version, versionLines, modeFields, channelLine};
 ghost use Rattle.rules.specs.Lineup as rule;
-ghost use Rattle.text.specs.Written.{Wrote, Counts, fieldOf, lineOf, frontOf, placeOf, codingFields, countLines};
+ghost use Rattle.text.specs.Written.{Wrote, Counts, fieldOf, lineOf, frontOf, khzFront, codingFields, countLines};
 use rules::LiveVersion;
 use rules::Mode;
 use rules::State;
@@ -144,7 +144,7 @@ fn put_place(
     khz: u32,
 ) -> usize
     requires { ⌜ at + length (now kind) + 107 ≤ length (now out) ⌝ }
-    ensures { λ r. ⌜ (r ≤ at + length (now (kind .entry)) + 107) × Wrote (now (out .entry)) at (placeOf number (now (kind .entry)) hidden path khz) (now (out .exit)) r ⌝ }
+    ensures { λ r. ⌜ (r ≤ at + length (now (kind .entry)) + 107) × Wrote (now (out .entry)) at (khzFront number (now (kind .entry)) hidden path khz) (now (out .exit)) r ⌝ }
 {
     let next = put_front(out, at, number, kind, hidden, path);
     put_field(out, next, b" khz=", khz as u64)
@@ -179,7 +179,7 @@ fn put_digital(
     mode: Mode,
 ) -> usize
     requires { ⌜ at + 289 ≤ length (now out) ⌝ }
-    ensures { λ r. ⌜ (r ≤ at + 289) × Wrote (now (out .entry)) at (placeOf number (text " kind=digital") hidden path khz ++ fieldOf (text " program=") program ++ modeFields mode ++ text "\n") (now (out .exit)) r ⌝ }
+    ensures { λ r. ⌜ (r ≤ at + 289) × Wrote (now (out .entry)) at (khzFront number (text " kind=digital") hidden path khz ++ fieldOf (text " program=") program ++ modeFields mode ++ text "\n") (now (out .exit)) r ⌝ }
 {
     let first = put_place(out, at, number, b" kind=digital", hidden, path, khz);
     let second = put_field(out, first, b" program=", program as u64);
@@ -198,7 +198,7 @@ fn put_analogue(
     scrambled: u8,
 ) -> usize
     requires { ⌜ at + 289 ≤ length (now out) ⌝ }
-    ensures { λ r. ⌜ (r ≤ at + 289) × Wrote (now (out .entry)) at (placeOf number (text " kind=analogue") hidden path khz ++ fieldOf (text " standard=") standard ++ fieldOf (text " scrambled=") scrambled ++ text "\n") (now (out .exit)) r ⌝ }
+    ensures { λ r. ⌜ (r ≤ at + 289) × Wrote (now (out .entry)) at (khzFront number (text " kind=analogue") hidden path khz ++ fieldOf (text " standard=") standard ++ fieldOf (text " scrambled=") scrambled ++ text "\n") (now (out .exit)) r ⌝ }
 {
     let first = put_place(out, at, number, b" kind=analogue", hidden, path, khz);
     let second = put_field(out, first, b" standard=", standard as u64);

@@ -1,7 +1,7 @@
 -- Without a header there is a refusal; with one the content is what the structure and the closing list say.
 use mathlib.Core.Path.{sym, ap, _∙_}
 use borrow.Author.Needs.{needs}
-use Rattle.section.specs.Reads.{shown}
+use Rattle.section.specs.Reads.{answeredAs}
 use Rattle.section.proofs.Whole.{header-no, header-is, shown-no, content-unheaded, content-headed}
 use Rattle.section.proofs.content_of.Statement.{statement}
 use Rattle.section.proofs.content_of.Tie as tie
@@ -15,7 +15,7 @@ returns c = shown-no _ _ _ (content-unheaded _ _ (header-no _ _ (sym (c .before 
 returns-2 : tie.Need-returns-2
 returns-2 c =
     let g = header-is _ _ (sym (c .before .before .header2 .given .1) ∙ c .before .before .before .before .header-of .ensures) in
-    c .structured .ensures ∙ ap (shown _) (sym (content-headed _ _ _ (g .0)))
+    c .structured .ensures ∙ ap (answeredAs _) (sym (content-headed _ _ _ (g .0)))
 
 pub content-of-spec : {M : Type 1} → statement M
 content-of-spec =

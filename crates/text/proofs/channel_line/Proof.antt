@@ -3,7 +3,7 @@ use native.Mathlib.Omega.{arith}
 use mathlib.Core.Path.{ap}
 use mathlib.Core.List.{flatten}
 use Rattle.rules.specs.Lineup.{text, field, front, channelLine}
-use Rattle.text.specs.Written.{fieldOf, frontOf, placeOf}
+use Rattle.text.specs.Written.{fieldOf, frontOf, khzFront}
 use Rattle.text.proofs.Lines.{nothing, line-of}
 use borrow.Author.Needs.{needs}
 use Rattle.text.proofs.channel_line.Statement.{statement}
@@ -14,19 +14,19 @@ unfolding channelLine flatten
 returns c = (omega arith, rw (c .enum-told .given .1) (nothing _ _ (omega (arith, c .before .before .before .pre))))
 
 returns-2 : tie.Need-returns-2
-unfolding channelLine front field placeOf frontOf fieldOf text
+unfolding channelLine front field khzFront frontOf fieldOf text
 returns-2 c =
     let p = c .before .before in
     (p .put-digital .ensures .0, line-of (ap (channelLine (p .before .before .before .before .before .before .args .number)) (p .before .before .before .tuned .given .1)) (p .put-digital .ensures .1))
 
 returns-3 : tie.Need-returns-3
-unfolding channelLine front field placeOf frontOf fieldOf text
+unfolding channelLine front field khzFront frontOf fieldOf text
 returns-3 c =
     let p = c .before .before in
     (p .put-analogue .ensures .0, line-of (ap (channelLine (p .before .before .before .before .before .before .args .number)) (p .before .before .before .tuned2 .given .1)) (p .put-analogue .ensures .1))
 
 returns-4 : tie.Need-returns-4
-unfolding channelLine front field placeOf frontOf fieldOf text
+unfolding channelLine front field khzFront frontOf fieldOf text
 returns-4 c =
     let p = c .before .before in
     (p .put-application .ensures .0, line-of (ap (channelLine (p .before .before .before .before .before .before .args .number)) (p .before .before .before .tuned3 .given .1)) (p .put-application .ensures .1))

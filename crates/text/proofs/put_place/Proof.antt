@@ -2,13 +2,13 @@
 use native.Mathlib.Omega.{arith}
 use Rattle.rules.specs.Lineup.{text}
 use Rattle.text.proofs.Written.{then}
-use Rattle.text.specs.Written.{fieldOf, placeOf}
+use Rattle.text.specs.Written.{fieldOf, khzFront}
 use borrow.Author.Needs.{needs}
 use Rattle.text.proofs.put_place.Statement.{statement}
 use Rattle.text.proofs.put_place.Tie as tie
 
 returns : tie.Need-returns
-unfolding placeOf fieldOf text
+unfolding khzFront fieldOf text
 returns c =
     let b = c .before .before in
     let a = b .before .before .before .before .before in

@@ -7,14 +7,14 @@ use lib.ListN.{length}
 use borrow.Author.Needs.{needs}
 use Rattle.rules.specs.Bytes.{byte, from}
 use Rattle.rules.specs.Descriptors.{closing}
-use Rattle.section.specs.Closes.{listed, firstIn}
+use Rattle.section.specs.Closes.{filled, firstIn}
 use Rattle.fields.proofs.Laws.{at-no}
 use Rattle.section.proofs.Lists.{here, first-end, first-never, first-here, first-pass, listed-on}
 use Rattle.section.proofs.closing.first_of.Statement.{statement}
 use Rattle.section.proofs.closing.first_of.Tie as tie
 
 abbrev Inv-loop : tie.InvT-loop
-Inv-loop b start tag at₀ at = (listed (closing (from b at)) ≡ true) × (firstIn tag start (closing (from b start)) ≡ firstIn tag at (closing (from b at)))
+Inv-loop b start tag at₀ at = (filled (closing (from b at)) ≡ true) × (firstIn tag start (closing (from b start)) ≡ firstIn tag at (closing (from b at)))
 
 abbrev μ-loop : tie.MeasureT-loop
 μ-loop b start tag at₀ at = length b - at
