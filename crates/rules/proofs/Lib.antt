@@ -1,5 +1,5 @@
--- The theorems about the rules. To read: the three conditions; what their statements say in words stands in specs/ (Offering, OfBox, Answered, Runs)
--- and, of reading and growth, in InParts and GrownAsking; then the laws.
+-- The theorems about the rules. To read: the three conditions. What their statements say in words stands in specs/: InParts, Offering, OfBox, Answered, Runs,
+-- Growth, Meaning; the paper's examples below. Then the laws.
 
 -- ---- the tender, sentence by sentence
 pub mod Condition1

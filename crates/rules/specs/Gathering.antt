@@ -1,5 +1,5 @@
 -- Document 01, "Holding and going live", once for every collector: the tables that it gathers, where their places are, how it reads a section, and
--- which sections it sets aside by a word. The box is one (`Holding`), with its tables; a long-form collector has one table.
+-- which sections it sets aside by a word. The box is one (`Holding`); another, in small, stands in the crate `examples`.
 use Prim.Native.Nat.{ℕ, _+_, _-_, _*_}
 use mathlib.Core.Bool.{Bool, cond, not}
 use mathlib.Core.List.{List, [], _∷_, _++_}
