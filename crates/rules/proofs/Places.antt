@@ -1,13 +1,13 @@
 -- Places: the bytes from a place on, the descriptor that stands at a place, and that whatever is read leaves an end of the
 -- bytes that it was given.
-use Prim.Native.Nat.{ℕ, zero, suc, _+_, _-_, _≤_}
+use Prim.Native.Nat.{ℕ, zero, suc, _+_, _-_, _≤_, _<_}
 use native.Mathlib.Omega.{arith}
 use native.Mathlib.Nat.{add-zero, add-assoc}
 use mathlib.Core.Path.{_≡_, refl, sym, ap, subst, _∙_}
 use mathlib.Core.Bool.{Bool, true, false}
 use mathlib.Core.List.{List, [], _∷_}
 use lib.ListN.{length, take, length-drop, drop-of-length-le}
-use lib.Seq.{getD-drop, drop-drop, drop-length}
+use lib.Seq.{getD-drop, getD-take, drop-drop, drop-length}
 use lib.Dec.{leb}
 use borrow.Author.Tests.{leb-true, leb-false}
 use Rattle.rules.specs.Bytes.{Got, refused, got, unless, andThen, giving, byte, from}
@@ -31,6 +31,11 @@ same-place b i j h k e = omega (arith, from-length b i, from-length b j, ap leng
 byte-from : (b : List ℕ) (at j : ℕ) → byte j (from b at) ≡ byte (at + j) b
 unfolding byte from
 byte-from b at j = rw getD-drop
+
+-- a byte of a part that is cut off behind it
+pub byte-part : (b : List ℕ) (n at j : ℕ) → at + j < n → byte j (from (take n b) at) ≡ byte (at + j) b
+unfolding byte
+byte-part b n at j h = byte-from (take n b) at j ∙ getD-take n b (at + j) 0 h
 
 -- ---- the descriptor that stands at a place
 

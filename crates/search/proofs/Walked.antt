@@ -1,10 +1,9 @@
 -- The walk of each table in the code's terms: where the records of 0xC2 and those behind a head stand.
-use Prim.Native.Nat.{ℕ, _+_, _<_}
+use Prim.Native.Nat.{ℕ}
 use native.Mathlib.Omega.{arith}
-use mathlib.Core.Path.{_≡_, refl, _∙_}
+use mathlib.Core.Path.{_≡_, refl}
 use mathlib.Core.List.{List}
 use lib.ListN.{take}
-use lib.Seq.{getD-drop, getD-take}
 use Rattle.rules.specs.Bytes.{byte, from}
 use Rattle.rules.specs.Tables.{vcmHeadOf, vcmHead, dcmHeadOf, dcmHead}
 use Rattle.rules.specs.Form.{countedHeader, noHead, mapHeader}
@@ -12,16 +11,13 @@ use Rattle.rules.specs.Section.{headerOf, recordsAt}
 use Rattle.rules.specs.declared.Table.the-variants.{Cds, Mms, Vcm, Dcm}
 use Rattle.rules.specs.declared.VcmHead.{VcmHead}
 use Rattle.rules.specs.declared.DcmHead.{DcmHead}
+use Rattle.rules.proofs.Places.{byte-part}
 use Rattle.search.specs.Live.{frontAt, walkOf}
-
-header-byte : (b : List ℕ) (j : ℕ) → j < 4 → byte j (from (take 7 b) 3) ≡ byte (3 + j) b
-unfolding byte from
-header-byte b j h = getD-drop 3 (take 7 b) j 0 ∙ getD-take 7 b (3 + j) 0 (omega (arith, h))
 
 module _ (b : List ℕ) where
   pub counted-walk-is : (first count : ℕ) → first ≡ byte 4 b → count ≡ byte 5 b → record { at = 7; index = first; count = count; included = 0 } ≡ walkOf Cds b
   unfolding walkOf frontAt recordsAt headerOf countedHeader noHead
-  counted-walk-is first count e f = rw (header-byte b 1 (omega arith), header-byte b 2 (omega arith), e, f)
+  counted-walk-is first count e f = rw (byte-part b 7 3 1 (omega arith), byte-part b 7 3 2 (omega arith), e, f)
 
   pub same-walk : walkOf Mms b ≡ walkOf Cds b
   unfolding walkOf frontAt recordsAt headerOf countedHeader noHead

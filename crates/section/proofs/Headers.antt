@@ -8,7 +8,7 @@ use mathlib.Core.List.{List}
 use mathlib.Core.Option.{Option, none, some}
 use lib.ListN.{length, take}
 use lib.Dec.{leb, ltb, eqb}
-use lib.Seq.{getD-drop, getD-take}
+use lib.Seq.{getD-take}
 use borrow.Author.Tests.{le-leb, lt-leb, eqb-true, eq-eqb, ne-eqb}
 use Rattle.rules.specs.Bytes.{Got, got, unless, giving, byte, from}
 use Rattle.rules.specs.Layout.{extent, taken}
@@ -17,6 +17,7 @@ use Rattle.rules.specs.Search.{first, any, otherwise}
 use Rattle.rules.specs.Section.{hasNumber, isNumber, mediumAt, named, headerOf, Headed, headerBy}
 use Rattle.rules.specs.declared.Table.{Table}
 use Rattle.rules.specs.declared.Table.the-variants.{Cds, Mms, Vcm, Dcm}
+use Rattle.rules.proofs.Places.{byte-part}
 use Rattle.section.specs.Reads.{headerAs, headedAs, behindHeader}
 use Rattle.section.specs.declared.header.Header.the-variants as header
 
@@ -56,8 +57,7 @@ named-none n m a b = rw (ne-eqb n 0xC2 a, ne-eqb n 0xC4 b) refl
 
 -- the form's part stands behind byte 2
 pub header-byte : (b : List ℕ) (j : ℕ) → j < 4 → byte j (from (take 7 b) 3) ≡ byte (3 + j) b
-unfolding byte from
-header-byte b j h = getD-drop 3 (take 7 b) j 0 ∙ getD-take 7 b (3 + j) 0 (omega (arith, h))
+header-byte b j h = byte-part b 7 3 j (omega (arith, h))
 
 front-byte : (b : List ℕ) → byte 1 (take 7 b) ≡ byte 1 b
 unfolding byte
