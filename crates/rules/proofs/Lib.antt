@@ -1,4 +1,4 @@
--- The theorems about the rules. To read: the three conditions. What their statements say in words stands in specs/: InParts, Offering, OfBox, Answered, Runs,
+-- The theorems about the rules. To read: the three conditions. What their statements say in words stands in specs/: InParts, Offering, Answered, Runs,
 -- Growth, Meaning; the paper's examples below. Then the laws.
 
 -- ---- the tender, sentence by sentence
@@ -23,7 +23,6 @@ pub mod Numbers  -- which numbers a refusal can have
 -- ---- holding and going live
 pub mod Offering  -- an offer answers what is told, and nothing else
 pub mod Gathers  -- all that is promised of gathering, of every lawful collector
-pub mod OfBox  -- all of the following, said of the box
 pub mod Offers  -- what an offer leaves as it was, and what its answer tells
 pub mod Kept  -- the store after an offer
 pub mod Placed  -- what stands in the places after an offer
@@ -41,6 +40,7 @@ pub mod Answered  -- tuning answers what is told, and nothing else
 pub mod Tunes  -- so does a channel record, and a search
 pub mod Reach  -- no frequency outside the tuner's reach
 pub mod LivePlaces  -- refusals 15 and 16, as they are told
+pub mod LiveReads  -- a fresh box never comes to 16
 pub mod Lowest  -- the lowest section first
 pub mod Search  -- the one fact that the four searches share
 -- ---- growth, and other runs that come to the same

@@ -8,8 +8,7 @@ use mathlib.Core.List.{List}
 use lib.Dec.{eqb}
 use borrow.Author.Tests.{eq-eqb, ne-eqb, eqb-true, eqb-false, not-true}
 use Rattle.rules.specs.Section.{Content, mapOf, Reading, wrong, right}
-use Rattle.rules.specs.Holding.{indexOf, isTable, sectionAt, holdingOf, liveAt, hasMap, notOurs, otherMap, readFor}
-use Rattle.rules.specs.OfBox.{OtherMapped}
+use Rattle.rules.specs.Holding.{indexOf, isTable, sectionAt, holdingOf, liveAt, hasMap, notOurs, otherMap, OtherMapped, readFor}
 use Rattle.rules.specs.Answered.{EachLive, Reads, EachReads}
 use Rattle.rules.specs.Tuning.{tuned, tableLive, allLive, liveCount, liveReading, isSection, readsAs, every, placeReads, tableReads, allRead}
 use Rattle.rules.specs.declared.Table.{Table}

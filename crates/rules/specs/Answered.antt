@@ -11,8 +11,7 @@ use lib.ListN.{length}
 use Rattle.rules.specs.Layout.{Numbered}
 use Rattle.rules.specs.Tables.{carrierKhz}
 use Rattle.rules.specs.Section.{Content, right}
-use Rattle.rules.specs.Holding.{limitOf, listed, storeSize, sectionAt, holdingOf, liveAt, wellFormed, readFor}
-use Rattle.rules.specs.OfBox.{OtherMapped}
+use Rattle.rules.specs.Holding.{limitOf, listed, storeSize, sectionAt, holdingOf, liveAt, wellFormed, OtherMapped, readFor}
 use Rattle.rules.specs.Tuning.{tuned, Plant, plant, hidden}
 use Rattle.rules.specs.declared.Table.{Table}
 use Rattle.rules.specs.declared.Carriers.{Carriers}

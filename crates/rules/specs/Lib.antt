@@ -13,7 +13,6 @@ pub mod Steps
 pub mod Gathering
 pub mod Offering
 pub mod Holding
-pub mod OfBox
 pub mod Tuning
 pub mod Answered
 pub mod Runs

@@ -1,0 +1,54 @@
+-- Of a fresh box, with any store, the live places always read: what its state says of the store is so (`Faithful`), and that is what check 16 asks.
+use Prim.Native.Nat.{ℕ, _+_}
+use native.Mathlib.Omega.{arith}
+use mathlib.Core.Path.{_≡_, ap, _∙_}
+use mathlib.Core.Bool.{true}
+use mathlib.Core.List.{List}
+use borrow.Author.Tests.{eqb-true, eq-eqb}
+use Rattle.rules.specs.Gathering as Gathering
+use Rattle.rules.specs.Holding.{indexOf, sectionAt, holdingOf, liveAt, fresh, Box, run, box}
+use Rattle.rules.specs.Offering.{Wanted}
+use Rattle.rules.specs.Tuning.{tuned, tableLive, allLive, liveCount, liveReading, isSection, readsAs, placeReads, tableReads, allRead}
+use Rattle.rules.specs.declared.Table.{Table}
+use Rattle.rules.specs.declared.State.{State}
+use Rattle.rules.specs.declared.Revision.{Revision}
+use Rattle.rules.proofs.States.{each-at, each-so, lawful, all-fresh}
+use Rattle.rules.proofs.Faithful.{FaithfulBox, faithful-run, faithful-fresh}
+use Rattle.rules.proofs.LivePlaces.{every-so}
+
+module _ (start : State) (b : Box) (f : FaithfulBox box start b) (t : Table) where
+  place-reads : (n : ℕ) → Wanted box start t (holdingOf (b .state) t .live .version) (holdingOf (b .state) t .live .last) n (sectionAt (b .store) (liveAt (b .state) t n))
+      → placeReads (b .state) (b .store) t n ≡ true
+  unfolding placeReads liveReading readsAs isSection
+  place-reads n w =
+      simp (
+        f .reads (sectionAt (b .store) (liveAt (b .state) t n)) ∙ w .reads,
+        eq-eqb (indexOf (w .content .table)) (indexOf t) (ap indexOf (w .table)),
+        f .aside (w .content) ∙ w .ours,
+        eq-eqb (w .content .revision .version) (holdingOf (b .state) t .live .version) (ap (λ (r : Revision). r .version) (w .revision)),
+        eq-eqb (w .content .revision .number) n (ap (λ (r : Revision). r .number) (w .revision)),
+        eq-eqb (w .content .revision .last) (holdingOf (b .state) t .live .last) (ap (λ (r : Revision). r .last) (w .revision)),
+      )
+
+  -- each place of a live table "reads right as that table, map, version, number and last"
+  pub table-reads : tableLive (b .state) t ≡ true → tableReads (b .state) (b .store) t ≡ true
+  unfolding tableLive tableReads liveCount Gathering.liveAt
+  table-reads e =
+      every-so (holdingOf (b .state) t .live .last + 1) (placeReads (b .state) (b .store) t)
+      (λ n lt. place-reads n (f .tables t .live (eqb-true (holdingOf (b .state) t .live .present) 1 e) n (omega arith)))
+
+-- all that tuning needs
+pub all-read : (start : State) (b : Box) → FaithfulBox box start b → allLive (b .state) ≡ true → allRead (b .state) (b .store) ≡ true
+unfolding allLive allRead
+all-read start b f e = each-so tuned (tableReads (b .state) (b .store)) (λ t h. table-reads start b f t (each-at tuned (tableLive (b .state)) e t h))
+
+fresh-faithful : (map : ℕ) (store : List ℕ) (sections : List (List ℕ)) → FaithfulBox box (fresh map) (run (record { state = fresh map; store = store }) sections)
+fresh-faithful map store sections =
+    faithful-run box lawful (fresh map) sections (record { state = fresh map; store = store })
+    (faithful-fresh box (fresh map) store (all-fresh map))
+
+-- whatever stood in the store and whatever is offered to a fresh box: once all tables are live, check 16 passes
+pub run-reads : (map : ℕ) (store : List ℕ) (sections : List (List ℕ)) → allLive (run (record { state = fresh map; store = store }) sections .state) ≡ true
+    → allRead (run (record { state = fresh map; store = store }) sections .state) (run (record { state = fresh map; store = store }) sections .store) ≡ true
+run-reads map store sections =
+    all-read (fresh map) (run (record { state = fresh map; store = store }) sections) (fresh-faithful map store sections)
