@@ -9,7 +9,7 @@ use Rattle.rules.specs.Bytes.{byte}
 use Rattle.rules.specs.Descriptors.{Descriptor}
 use Rattle.rules.specs.Section.{Content, wrong, right}
 use Rattle.rules.specs.Form.{form}
-use Rattle.rules.specs.Parts.{Piece, Parts, Shaped}
+use Rattle.rules.specs.Parts.{Piece, Shaped}
 use Rattle.rules.specs.Growth.{empty, kept, added, GrownRevision, GrownClosing, FullerPieces, end, GrownParts, Grown}
 use Rattle.rules.specs.declared.Table.the-variants.{Cds, Vcm, Dcm}
 use Rattle.rules.proofs.Hex.{hex}

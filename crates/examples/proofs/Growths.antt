@@ -2,14 +2,13 @@
 -- its records have lists, into those; a longer revision descriptor and other reserved bits; in one, other bodies of descriptors that the box
 -- doesn't know; and the example plant, grown whole. By computation.
 use Prim.Native.Nat.{ℕ}
-use Prim.Native.String.{String}
 use native.Mathlib.Omega.{arith}
 use mathlib.Core.Path.{refl}
 use mathlib.Core.List.{List, [], _∷_}
 use Rattle.rules.specs.Descriptors.{Descriptor}
 use Rattle.rules.specs.Form.{form}
 use Rattle.rules.specs.Section.{Structure, Content}
-use Rattle.rules.specs.Parts.{Piece, Shaped}
+use Rattle.rules.specs.Parts.{Shaped}
 use Rattle.rules.specs.Growth.{empty, kept, added, GrownRevision, stays, other, revised, end, next, GrownParts, Grown, GrownRun, grown}
 use Rattle.rules.specs.Growth
 use Rattle.rules.specs.declared.Table.{Table}

@@ -1,8 +1,8 @@
 -- A second collector, in small: one table, so many sections as its state says, places of 4,096 bytes, and a reader of its own. It is no part of
 -- the box; it shows that what is promised of gathering is promised of more than the box: its record, its laws, and one line.
-use Prim.Native.Nat.{ℕ, _+_, _*_, _<_, _≤_, _%_}
+use Prim.Native.Nat.{ℕ, _+_, _<_, _%_}
 use native.Mathlib.Omega.{arith}
-use mathlib.Core.Path.{_≡_, refl, sym, subst, _∙_}
+use mathlib.Core.Path.{_≡_, refl, subst}
 use mathlib.Core.Bool.{Bool, true, false, cond, not, _&&_}
 use mathlib.Core.List.{List, [], _∷_}
 use lib.Dec.{leb, ltb, eqb, lit<}

@@ -18,8 +18,8 @@ use rules::Tables;
 
 // ---- the state
 
-// Bytes of the store of a fresh box: an array's length can't be asked of `state::store_size`. Who lends such an array proves that it
-// is as long as the rule says.
+// Bytes of the store of a fresh box: an array's length can't be asked of `state::store_size`. That it is as long as the rule says is a law
+// (`fresh-store`), which `lineup` and `runs` cite; where it is not used, as in `trace`, check 1 looks at every store.
 pub const STORE: usize = 32768;
 
 // Nothing live, nothing gathered, and the half set to 1, so that gathering uses half 0.

@@ -9,21 +9,25 @@ use lib.Dec.{eqb}
 use Rattle.rules.specs.Section.{right}
 use Rattle.rules.specs.Steps.{freshHolding, takesIn}
 use Rattle.rules.specs.Gathering.{Collector, BoxOf, sectionAt, liveAt, gatheredAt, answerTo, boxAfter, run, answers}
-use Rattle.rules.specs.Offering.{goesLive, SameLive, NowHas, NotOf, TakenIn, NowLive, NowHeld, New, Promised, Wanted, NoneOther}
+use Rattle.rules.specs.Offering.{goesLive, SameLive, NowHas, NotOf, TakenIn, NowLive, NowHeld, New, Offering, Promised, Wanted, NoneOther}
+use Rattle.rules.specs.declared.Answer.{Answer}
 use Rattle.rules.specs.declared.Answer.the-variants.{Stored, Live}
 use Rattle.rules.proofs.Lawful.{Lawful}
 use Rattle.rules.proofs.Offers.{taken-in, untouched, went-live, live-kept, live-changes, others-kept, now-held}
-use Rattle.rules.proofs.Offering.{complete-lives}
+use Rattle.rules.proofs.Offering.{Told, offering, offering-only, complete-lives}
 use Rattle.rules.proofs.Placed.{held-stays, live-sections, live-section-kept}
 use Rattle.rules.proofs.GoingLive.{goes-live}
 use Rattle.rules.proofs.Faithful.{FaithfulBox, section-placed, faithful-run, faithful-fresh}
 use Rattle.rules.proofs.Alike.{Enough, Paired, itself, each-itself, alike-itself, fresh-alike, run-alike}
 
 module _ {T S C : Type 0} (co : Collector T S C) where
-  open Collector co using (holding as holdingOf, limit as limitOf, read as readFor, table as tableOf, revision as revisionOf)
+  open Collector co using (holding as holdingOf, limit as limitOf, read as readFor, table as tableOf, revision as revisionOf, aside as setAside)
 
   pub record Gathers : Type 1 where
-    -- condition 1: what is taken in has passed every check, and every other answer changes neither state nor store
+    -- condition 1: the answer is the one that the checks in their order allow, and no other; what is taken in has passed them all, and every
+    -- other answer changes neither state nor store
+    pub offer-checked : (b : BoxOf S) (section : List ℕ) → Offering co (λ s c. setAside s c ≡ true) b section (answerTo co b section)
+    pub offer-only : (b : BoxOf S) (section : List ℕ) (a : Answer) → Offering co (λ s c. setAside s c ≡ true) b section a → a ≡ answerTo co b section
     pub taken-checked : (b : BoxOf S) (section : List ℕ) → takesIn (answerTo co b section) ≡ true → (c : C) × TakenIn co b section c
     pub others-leave : (b : BoxOf S) (section : List ℕ) → takesIn (answerTo co b section) ≡ false → boxAfter co b section ≡ b
     -- condition 2: "A version of a table goes live at the section that completes it"
@@ -56,11 +60,18 @@ module _ {T S C : Type 0} (co : Collector T S C) where
     -- growth changes nothing); nor does what stood in a fresh box's store matter
     pub same-run : {M : Type 0} (means : C → M) → Enough co means → (b : BoxOf S) {ss gs : List (List ℕ)} → Paired co means (b .state) ss gs → (answers co b gs ≡ answers co b ss) × (run co b gs .state ≡ run co b ss .state)
     pub any-store : (start : S) (store other : List ℕ) → ((t : T) → holdingOf start t ≡ freshHolding) → length other ≡ length store → (sections : List (List ℕ))
-        → run co (record { state = start; store = other }) sections .state ≡ run co (record { state = start; store = store }) sections .state
+        → (answers co (record { state = start; store = other }) sections ≡ answers co (record { state = start; store = store }) sections)
+        × (run co (record { state = start; store = other }) sections .state ≡ run co (record { state = start; store = store }) sections .state)
+
+  -- step 1 by the collector's own test
+  as-tested : Told co (λ s c. setAside s c ≡ true)
+  as-tested = record { says = λ s c e. e; so = λ s c e. e }
 
   pub gathers : Lawful co → Gathers
   gathers law =
       record {
+        offer-checked = offering co law (λ s c. setAside s c ≡ true) as-tested;
+        offer-only = offering-only co law (λ s c. setAside s c ≡ true) as-tested;
         taken-checked = taken-in co law;
         others-leave = untouched co law;
         live-completes = went-live co law;
@@ -76,5 +87,7 @@ module _ {T S C : Type 0} (co : Collector T S C) where
         same-sections = live-section-kept co law;
         live-reads = λ start store fresh sections. faithful-run co law start sections _ (faithful-fresh co start store fresh);
         same-run = λ means enough b g. let r = run-alike co means law enough b b g (alike-itself co means b) in (r .0, r .1 .state);
-        any-store = λ start store other fresh e sections. run-alike co (λ c. c) law (itself co) _ _ (each-itself co (λ c. c) start sections) (fresh-alike co (λ c. c) start store other fresh e) .1 .state;
+        any-store = λ start store other fresh e sections.
+            let r = run-alike co (λ c. c) law (itself co) _ _ (each-itself co (λ c. c) start sections) (fresh-alike co (λ c. c) start store other fresh e) in
+            (r .0, r .1 .state);
       }

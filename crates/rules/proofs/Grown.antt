@@ -1,20 +1,19 @@
 -- Condition 3 for one section: grown, it reads as it did, but for what growth put into its closing list. What reads right is told by its
 -- parts, both ways (`InParts`); growth keeps all that they are asked for and all that they say.
-use Prim.Native.Nat.{ℕ, _+_, _%_, _<_}
+use Prim.Native.Nat.{ℕ, _%_, _<_}
 use native.Mathlib.Omega.{arith}
 use mathlib.Core.Path.{_≡_, refl, sym, ap, _∙_}
 use mathlib.Core.Bool.{Bool, true, false, cond}
 use mathlib.Core.List.{List, [], _∷_}
 use lib.Dec.{eqb}
-use lib.ListN.{length, List·getD-append}
-use borrow.Author.Tests.{eqb-true, le-leb, ne-eqb}
+use lib.ListN.{List·getD-append}
+use borrow.Author.Tests.{le-leb, ne-eqb}
 use Rattle.rules.specs.Bytes.{byte}
-use Rattle.rules.specs.Crc.{crcOf}
 use Rattle.rules.specs.Descriptors.{Descriptor, bodies}
 use Rattle.rules.specs.Form.{Form, form}
-use Rattle.rules.specs.Section.{Structure, revisionTag, revision, Content, withoutCrc, right, readSection}
+use Rattle.rules.specs.Section.{Structure, revisionTag, revision, Content, right, readSection}
 use Rattle.rules.specs.Parts.{Piece, Parts, saidFront, laidOut, bytesOf, Shaped, said}
-use Rattle.rules.specs.InParts.{ReadFrom, PartsRight, contentIn}
+use Rattle.rules.specs.InParts.{PartsRight, contentIn}
 use Rattle.rules.specs.Growth.{FullerList, empty, kept, added, GrownRevision, stays, other, revised, GrownClosing, FullerPieces, end, next, GrownParts, Grown}
 use Rattle.rules.specs.declared.Table.{Table}
 use Rattle.rules.specs.declared.Revision.{Revision}

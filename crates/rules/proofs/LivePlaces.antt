@@ -10,7 +10,7 @@ use borrow.Author.Tests.{eq-eqb, ne-eqb, eqb-true, eqb-false, not-true}
 use Rattle.rules.specs.Section.{Content, mapOf, Reading, wrong, right}
 use Rattle.rules.specs.Holding.{indexOf, isTable, sectionAt, holdingOf, liveAt, hasMap, notOurs, otherMap, OtherMapped, readFor}
 use Rattle.rules.specs.Answered.{EachLive, Reads, EachReads}
-use Rattle.rules.specs.Tuning.{tuned, tableLive, allLive, liveCount, liveReading, isSection, readsAs, every, placeReads, tableReads, allRead}
+use Rattle.rules.specs.Tuning.{neededTables, tableLive, allLive, liveCount, liveReading, isSection, readsAs, every, placeReads, tableReads, allRead}
 use Rattle.rules.specs.declared.Table.{Table}
 use Rattle.rules.specs.declared.State.{State}
 use Rattle.rules.proofs.Taken.{not-so, differ, both-left, both-right}
@@ -85,17 +85,17 @@ every-at (suc n) test e k lt = go (eqb k n) refl (every-at n test (both-left _ (
 
 pub live-so : (s : State) → EachLive s → allLive s ≡ true
 unfolding allLive tableLive
-live-so s l = each-so tuned (tableLive s) (λ t h. eq-eqb (holdingOf s t .live .present) 1 (l .live t h))
+live-so s l = each-so neededTables (tableLive s) (λ t h. eq-eqb (holdingOf s t .live .present) 1 (l .live t h))
 
 pub live-says : (s : State) → allLive s ≡ true → EachLive s
 unfolding allLive tableLive
-live-says s e = record { live = λ t h. eqb-true (holdingOf s t .live .present) 1 (each-at tuned (tableLive s) e t h) }
+live-says s e = record { live = λ t h. eqb-true (holdingOf s t .live .present) 1 (each-at neededTables (tableLive s) e t h) }
 
 module _ (s : State) (store : List ℕ) where
   pub reads-so : EachReads s store → allRead s store ≡ true
   unfolding allRead tableReads liveCount
   reads-so r =
-      each-so tuned (tableReads s store)
+      each-so neededTables (tableReads s store)
       (λ t h. every-so (holdingOf s t .live .last + 1) (placeReads s store t) (λ n lt. place-so s store t n (r .reads t h n (omega arith))))
 
   -- one table
@@ -105,4 +105,4 @@ module _ (s : State) (store : List ℕ) where
 
   pub reads-says : allRead s store ≡ true → EachReads s store
   unfolding allRead liveCount
-  reads-says e = record { reads = λ t h n le. table-says t (each-at tuned (tableReads s store) e t h) n (omega arith) }
+  reads-says e = record { reads = λ t h n le. table-says t (each-at neededTables (tableReads s store) e t h) n (omega arith) }

@@ -8,7 +8,7 @@ use borrow.Author.Tests.{eqb-true, eq-eqb}
 use Rattle.rules.specs.Gathering as Gathering
 use Rattle.rules.specs.Holding.{indexOf, sectionAt, holdingOf, liveAt, fresh, Box, run, box}
 use Rattle.rules.specs.Offering.{Wanted}
-use Rattle.rules.specs.Tuning.{tuned, tableLive, allLive, liveCount, liveReading, isSection, readsAs, placeReads, tableReads, allRead}
+use Rattle.rules.specs.Tuning.{neededTables, tableLive, allLive, liveCount, liveReading, isSection, readsAs, placeReads, tableReads, allRead}
 use Rattle.rules.specs.declared.Table.{Table}
 use Rattle.rules.specs.declared.State.{State}
 use Rattle.rules.specs.declared.Revision.{Revision}
@@ -40,7 +40,7 @@ module _ (start : State) (b : Box) (f : FaithfulBox box start b) (t : Table) whe
 -- all that tuning needs
 pub all-read : (start : State) (b : Box) → FaithfulBox box start b → allLive (b .state) ≡ true → allRead (b .state) (b .store) ≡ true
 unfolding allLive allRead
-all-read start b f e = each-so tuned (tableReads (b .state) (b .store)) (λ t h. table-reads start b f t (each-at tuned (tableLive (b .state)) e t h))
+all-read start b f e = each-so neededTables (tableReads (b .state) (b .store)) (λ t h. table-reads start b f t (each-at neededTables (tableLive (b .state)) e t h))
 
 fresh-faithful : (map : ℕ) (store : List ℕ) (sections : List (List ℕ)) → FaithfulBox box (fresh map) (run (record { state = fresh map; store = store }) sections)
 fresh-faithful map store sections =

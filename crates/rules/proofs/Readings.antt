@@ -10,11 +10,11 @@ use lib.ListN.{length, replicate}
 use Rattle.rules.specs.Layout.{Numbered}
 use Rattle.rules.specs.Tables.{carriersOf, modeOf, channelOf, rangeOf}
 use Rattle.rules.specs.Section.{check, ask, partOf}
-use Rattle.rules.specs.Holding.{tables, noneLive, noneGathered, freshHolding, fresh, with, liveFormed, gatheredFormed, placeOf, storeSize, stepOf, offered, gatheredAt}
+use Rattle.rules.specs.Holding.{noneLive, noneGathered, freshHolding, fresh, with, liveFormed, gatheredFormed, placeOf, storeSize, stepOf, offered, gatheredAt}
 use Rattle.rules.specs.Search.{sections}
 use Rattle.rules.specs.Tuning.{Plant, lookUp, tune}
 use Rattle.rules.specs.Lineup.{text, sectionsOf, refusals, channelLine, lineup}
-use Rattle.rules.specs.declared.Table.the-variants.{Cds}
+use Rattle.rules.specs.declared.Table.the-variants.{Cds, Mms, Vcm, Dcm}
 use Rattle.rules.specs.declared.Holding.{Holding}
 use Rattle.rules.specs.declared.Answer.the-variants.{Refused, OtherMap, Repeat, Stored}
 use Rattle.rules.specs.declared.Asked.the-variants as Asked
@@ -130,7 +130,7 @@ pub record Readings : Type 0 where
   -- B10: held numbers beyond last
   pub b10 : gatheredFormed 4 (record { present = 1; version = 5; last = 1; held = 0x11 }) ≡ false
   -- the store: 32 places of 1,024 bytes, tables in the order CDS, MMS, VCM, DCM, half 0 then half 1
-  pub places : map (λ t. placeOf 4 t 1 3) tables ≡ 7 * 1024 ∷ 15 * 1024 ∷ 23 * 1024 ∷ 31 * 1024 ∷ []
+  pub places : map (λ t. placeOf 4 t 1 3) (Cds ∷ Mms ∷ Vcm ∷ Dcm ∷ []) ≡ 7 * 1024 ∷ 15 * 1024 ∷ 23 * 1024 ∷ 31 * 1024 ∷ []
   pub places-all : storeSize 4 ≡ 32768
   -- last + 1 less those held: of 0 to 3 first 2, then 0, then 3
   pub missing : stepOf 4 freshHolding (record { version = 5; number = 2; last = 3 }) ≡ record { answer = Stored 3; holding = holding5 0x04 }

@@ -13,7 +13,7 @@ use Rattle.rules.specs.Section.{Content, right, readSection}
 use Rattle.rules.specs.Meaning.{Meaning, meant}
 use Rattle.rules.specs.Gathering as Gathering
 use Rattle.rules.specs.Holding.{limitOf, listed, readFor, sectionAt, storeSize, holdingOf, liveAt, wellFormed, notOurs, otherMap, Box, box}
-use Rattle.rules.specs.Tuning.{tuned, allLive, liveCount, liveReading, isSection, readsAs, every, placeReads, tableReads, allRead, recordsIn, liveSection, liveRecords, plant, needs, lookUp, tune}
+use Rattle.rules.specs.Tuning.{neededTables, allLive, liveCount, liveReading, isSection, readsAs, every, placeReads, tableReads, allRead, recordsIn, liveSection, liveRecords, plant, needs, lookUp, tune}
 use Rattle.rules.specs.Growth.{Grown}
 use Rattle.rules.specs.declared.Table.{Table}
 use Rattle.rules.specs.declared.Table.the-variants.{Cds, Mms, Vcm, Dcm}
@@ -77,22 +77,22 @@ module _ (b c : Box) (a : Alike b c) where
   s = b .state
 
   module _ (live : allLive s ≡ true) where
-    live-alike : (t : Table) → listed tuned t ≡ true → (n : ℕ) → n < liveCount s t → SaySame s (sectionAt (b .store) (liveAt s t n)) (sectionAt (c .store) (liveAt s t n))
+    live-alike : (t : Table) → listed neededTables t ≡ true → (n : ℕ) → n < liveCount s t → SaySame s (sectionAt (b .store) (liveAt s t n)) (sectionAt (c .store) (liveAt s t n))
     unfolding liveCount Gathering.liveAt
     live-alike t h n lt = a .places t (holdingOf s t .half) n (inl (live-says s live .live t h, refl, omega arith))
 
-    table-alike : (t : Table) → listed tuned t ≡ true → tableReads s (c .store) t ≡ tableReads s (b .store) t
+    table-alike : (t : Table) → listed neededTables t ≡ true → tableReads s (c .store) t ≡ tableReads s (b .store) t
     unfolding tableReads placeReads liveReading
     table-alike t h = every-same (liveCount s t) _ _ (λ n lt. by-same box says (readsAs s t n) (reads-same s t n) (live-alike t h n lt))
 
-    records-alike : {R : Type 0} (records : Plant → List R) (t : Table) → listed tuned t ≡ true
+    records-alike : {R : Type 0} (records : Plant → List R) (t : Table) → listed neededTables t ≡ true
         → liveRecords (λ x. records (x .lists)) s (c .store) t ≡ liveRecords (λ x. records (x .lists)) s (b .store) t
     unfolding liveRecords liveSection liveReading
     records-alike records t h = same-sections _ _ (liveCount s t) 0 (λ n lt. by-same box says (recordsIn (λ x. records (x .lists))) (records-same records) (live-alike t h n (omega arith)))
 
     read-alike : allRead s (c .store) ≡ allRead s (b .store)
     unfolding allRead
-    read-alike = each-same tuned (tableReads s (c .store)) (tableReads s (b .store)) table-alike
+    read-alike = each-same neededTables (tableReads s (c .store)) (tableReads s (b .store)) table-alike
 
     plant-alike : plant s (c .store) ≡ plant s (b .store)
     unfolding plant

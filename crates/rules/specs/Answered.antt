@@ -1,6 +1,7 @@
 -- What a channel number is tuned to, told in words, without the rule's own search and tests: document 01, "From number to tuner", and of "Numbers of
--- refusal" 1, 2 and 14 to 21. Two words are the rule's: `carrierKhz`, "first + k x spacing, each in its own unit", and `hidden`, of which `hidden-is`
--- says what it is. That the rule answers so, and only so, is proofs/.
+-- refusal" 1, 2 and 14 to 21. Of the rules it takes `carrierKhz`, "first + k x spacing, each in its own unit"; `hidden`, of which `hidden-is` says what
+-- it is; which tables are needed, when a state is well formed, how long its store is, and where its live sections and records stand. That the rule
+-- answers so, and only so, is proofs/.
 use Prim.Native.Nat.{ℕ, _+_, _-_, _<_, _≤_}
 use mathlib.Core.Path.{_≡_}
 use mathlib.Core.Logic.{_⊎_}
@@ -12,7 +13,7 @@ use Rattle.rules.specs.Layout.{Numbered}
 use Rattle.rules.specs.Tables.{carrierKhz}
 use Rattle.rules.specs.Section.{Content, right}
 use Rattle.rules.specs.Holding.{limitOf, listed, storeSize, sectionAt, holdingOf, liveAt, wellFormed, OtherMapped, readFor}
-use Rattle.rules.specs.Tuning.{tuned, Plant, plant, hidden}
+use Rattle.rules.specs.Tuning.{neededTables, Plant, plant, hidden}
 use Rattle.rules.specs.declared.Table.{Table}
 use Rattle.rules.specs.declared.Carriers.{Carriers}
 use Rattle.rules.specs.declared.Mode.{Mode}
@@ -107,7 +108,7 @@ pub data Looked (p : Plant) (number : ℕ) : Tuned → Type 0 where
 -- ---- refusals 15 and 16: the live places of the tables that tuning needs
 
 pub record EachLive (s : State) : Type 0 where
-  pub live : (t : Table) → listed tuned t ≡ true → holdingOf s t .live .present ≡ 1
+  pub live : (t : Table) → listed neededTables t ≡ true → holdingOf s t .live .present ≡ 1
 
 -- the place of section n of a live table "reads right as that table, map, version, number and last"
 pub record Reads (s : State) (store : List ℕ) (t : Table) (n : ℕ) : Type 0 where
@@ -120,7 +121,7 @@ pub record Reads (s : State) (store : List ℕ) (t : Table) (n : ℕ) : Type 0 w
   pub last : content .revision .last ≡ holdingOf s t .live .last
 
 pub record EachReads (s : State) (store : List ℕ) : Type 0 where
-  pub reads : (t : Table) → listed tuned t ≡ true → (n : ℕ) → n ≤ holdingOf s t .live .last → Reads s store t n
+  pub reads : (t : Table) → listed neededTables t ≡ true → (n : ℕ) → n ≤ holdingOf s t .live .last → Reads s store t n
 
 -- ---- "For tuning: 1, 2, 14, 15, 16, then 17 to 21."
 

@@ -1,6 +1,6 @@
 -- Document 01, "What the box reads" and "Bytes of a section": what a table is, as data. A form says a table's number and subtype, its
 -- header, the head of its structure, the layout of its records, from which index and how many there are, and whose records they are. `form`
--- is the one place that names the tables' layouts: reading, growth, searching and tuning are said once, of every form.
+-- is the one place that names the tables' layouts: reading, growth, and where records stand are said once, of every form.
 use Prim.Native.Nat.{ℕ, _/_}
 use mathlib.Core.Bool.{Bool, true, false}
 use mathlib.Core.List.{List, [], _∷_}

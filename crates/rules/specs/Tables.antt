@@ -1,5 +1,5 @@
 -- Document 01, "Bytes of a section": the records of the four tables and the heads of VCM and DCM, bit by bit; and of
--- "Numbers of refusal" their clauses of 10 (first index 0 is the header's: Section.antt). Where document 003 says another
+-- "Numbers of refusal" their clauses of 10 (first index 0 is the header's: Form.antt). Where document 003 says another
 -- limit, document 01 wins.
 use Prim.Native.Nat.{ℕ, _+_, _*_, _/_, _%_}
 use mathlib.Core.Bool.{Bool, true, false, cond, _&&_, _||_}

@@ -27,15 +27,15 @@ use Rattle.rules.specs.declared.Tuned.the-variants as Tuned
 -- ---- refusals 15 and 16: the live places
 
 -- the tables that tuning needs
-abbrev pub tuned : List Table
-tuned = Cds ∷ Mms ∷ Vcm ∷ Dcm ∷ []
+abbrev pub neededTables : List Table
+neededTables = Cds ∷ Mms ∷ Vcm ∷ Dcm ∷ []
 
 -- refusal 15, unless each of them is live
 unfoldable pub tableLive : State → Table → Bool
 tableLive s t = eqb (holdingOf s t .live .present) 1
 
 unfoldable pub allLive : State → Bool
-allLive s = each tuned (tableLive s)
+allLive s = each neededTables (tableLive s)
 
 -- sections 0 to last of a live table
 unfoldable pub liveCount : State → Table → ℕ
@@ -70,7 +70,7 @@ unfoldable pub tableReads : State → List ℕ → Table → Bool
 tableReads s store t = every (liveCount s t) (placeReads s store t)
 
 unfoldable pub allRead : State → List ℕ → Bool
-allRead s store = each tuned (tableReads s store)
+allRead s store = each neededTables (tableReads s store)
 
 -- ---- the live records of the four tables
 

@@ -2,19 +2,19 @@
 -- seven bytes, as every table has it, says in which byte.
 use Prim.Native.Nat.{ℕ, _+_, _*_, _/_, _<_, _≤_}
 use native.Mathlib.Omega.{arith}
-use mathlib.Core.Path.{_≡_, refl, sym, ap, _∙_}
+use mathlib.Core.Path.{_≡_, refl}
 use mathlib.Core.Bool.{Bool, true, false, cond, _&&_, _||_}
 use mathlib.Core.List.{List}
-use mathlib.Core.Option.{Option, none, some}
+use mathlib.Core.Option.{none, some}
 use lib.ListN.{length, take}
 use lib.Dec.{leb, ltb, eqb}
 use lib.Seq.{getD-take}
-use borrow.Author.Tests.{le-leb, lt-leb, eqb-true, eq-eqb, ne-eqb}
-use Rattle.rules.specs.Bytes.{Got, got, unless, giving, byte, from}
+use borrow.Author.Tests.{le-leb, lt-leb, eq-eqb, ne-eqb}
+use Rattle.rules.specs.Bytes.{got, unless, giving, byte, from}
 use Rattle.rules.specs.Layout.{extent, taken}
-use Rattle.rules.specs.Form.{Front, protocolZeros, countedHeader, mapHeader, form}
+use Rattle.rules.specs.Form.{protocolZeros, countedHeader, mapHeader, form}
 use Rattle.rules.specs.Search.{first, any, otherwise}
-use Rattle.rules.specs.Section.{hasNumber, isNumber, mediumAt, named, headerOf, Headed, headerBy}
+use Rattle.rules.specs.Section.{hasNumber, isNumber, mediumAt, named, headerOf, headerBy}
 use Rattle.rules.specs.declared.Table.{Table}
 use Rattle.rules.specs.declared.Table.the-variants.{Cds, Mms, Vcm, Dcm}
 use Rattle.rules.proofs.Places.{byte-part}

@@ -10,7 +10,7 @@ use lib.Dec.{leb}
 use borrow.Author.Tests.{le-leb, lt-leb, leb-true, ne-eqb, not-true}
 use Rattle.rules.specs.Section.{Reading, wrong, right, withoutCrc, readSection, headOf, readAs}
 use Rattle.rules.specs.Holding.{limitOf, listed, notOurs, otherMap, readFor, storeSize, sectionAt, holdingOf, liveAt, wellFormed}
-use Rattle.rules.specs.Tuning.{tuned, isSection, tableLive, allLive, readsAs, every, liveReading, placeReads, tableReads, allRead, plant, needs, lookUp, tune}
+use Rattle.rules.specs.Tuning.{neededTables, isSection, tableLive, allLive, readsAs, every, liveReading, placeReads, tableReads, allRead, plant, needs, lookUp, tune}
 use Rattle.rules.specs.declared.Table.{Table}
 use Rattle.rules.specs.declared.State.{State}
 use Rattle.rules.specs.declared.SectionHead.{SectionHead}
@@ -65,13 +65,13 @@ pub few : (s : State) → wellFormed s ≡ true → Few s
 few s good = record { few = λ t. last-low (limitOf s) (holdingOf s t .live) (limit-some s) (formed (limitOf s) (holdingOf s t) (table-formed s t good) .live) }
 
 -- a table that was found not to be live, or not to read right
-pub one-not-live : (s : State) (t : Table) → listed tuned t ≡ true → (holdingOf s t .live .present ≡ 1 → ⊥) → false ≡ allLive s
+pub one-not-live : (s : State) (t : Table) → listed neededTables t ≡ true → (holdingOf s t .live .present ≡ 1 → ⊥) → false ≡ allLive s
 unfolding allLive tableLive
-one-not-live s t h ne = sym (each-no tuned (tableLive s) t h (ne-eqb (holdingOf s t .live .present) 1 ne))
+one-not-live s t h ne = sym (each-no neededTables (tableLive s) t h (ne-eqb (holdingOf s t .live .present) 1 ne))
 
-pub one-unread : (s : State) (store : List ℕ) (t : Table) → listed tuned t ≡ true → {b : Bool} → b ≡ tableReads s store t → not b ≡ true → false ≡ allRead s store
+pub one-unread : (s : State) (store : List ℕ) (t : Table) → listed neededTables t ≡ true → {b : Bool} → b ≡ tableReads s store t → not b ≡ true → false ≡ allRead s store
 unfolding allRead
-one-unread s store t h {b} e n = sym (each-no tuned (tableReads s store) t h (sym e ∙ not-true b n))
+one-unread s store t h {b} e n = sym (each-no neededTables (tableReads s store) t h (sym e ∙ not-true b n))
 
 pub record Passed (s : State) (store : List ℕ) : Type 0 where
   pub roomy : storeSize (limitOf s) ≤ length store
@@ -93,9 +93,9 @@ passed s store e =
     record { roomy = leb-true (storeSize (limitOf s)) (length store) (one .0); good = two .0; live = fifteen .0; reads = sixteen .0 }
 
 -- every table that tuning needs can be searched
-pub searchable : (s : State) (store : List ℕ) → checks s store ≡ 0 → (t : Table) → listed tuned t ≡ true → Live s store t
+pub searchable : (s : State) (store : List ℕ) → checks s store ≡ 0 → (t : Table) → listed neededTables t ≡ true → Live s store t
 unfolding allRead
-searchable s store e t h = record { few = few s (passed s store e .good) .few t; reads = each-at tuned (tableReads s store) (passed s store e .reads) t h }
+searchable s store e t h = record { few = few s (passed s store e .good) .few t; reads = each-at neededTables (tableReads s store) (passed s store e .reads) t h }
 
 -- ---- the checks, one by one
 

@@ -1,5 +1,4 @@
 -- Each test is one of the rule's.
-use mathlib.Core.Path.{sym, _∙_}
 use borrow.Author.Tests.{eq-eqb, ne-eqb}
 use Rattle.section.proofs.Headers.{number-is}
 use Rattle.section.proofs.is_table_number.Statement.{statement}

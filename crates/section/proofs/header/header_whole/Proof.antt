@@ -1,6 +1,5 @@
 -- Each test is a refusal of the rule, in its order.
 use native.Mathlib.Omega.{arith}
-use mathlib.Core.Path.{sym, ap, _∙_}
 use borrow.Author.Needs.{needs}
 use Rattle.section.proofs.Headers.{whole-short, whole-high, whole-protocol, whole-fair, whole-unfair}
 use Rattle.section.proofs.header.header_whole.Statement.{statement}
