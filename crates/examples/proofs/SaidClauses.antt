@@ -1,9 +1,11 @@
 -- "A definition gives this paper's number and values for each of the enum's cases": each case of the four enums, computed, with another value in every field.
+use native.Mathlib.Omega.{arith}
 use mathlib.Core.Path.{_≡_, refl}
+use mathlib.Core.Logic.{_⊎_, inl, inr}
 use mathlib.Core.List.{[], _∷_, map}
 use lib.ListN.{replicate}
 use Rattle.rules.specs.Holding.{fresh}
-use Rattle.rules.specs.Said.{readSaid, askedSaid, answerSaid, tunedSaid, sectionSaid, askSaid, offerSaid, tuneSaid}
+use Rattle.rules.specs.Said.{readSaid, askedSaid, answerSaid, tunedSaid, sectionSaid, askSaid, offerSaid, tuneSaid, OfSection, OfOffer, OfTuning}
 use Rattle.rules.specs.declared.Table.the-variants.{Cds, Mms, Vcm, Dcm}
 use Rattle.rules.specs.declared.Read.the-variants as Read
 use Rattle.rules.specs.declared.Asked.the-variants as Asked
@@ -44,6 +46,17 @@ pub record SaidClauses : Type 0 where
   pub to-channel :
       map (tuneSaid (fresh 0) (replicate 32768 0)) (3 ∷ 4096 ∷ [])
       ≡ record { refusal = 15; word = "refusal"; values = [] } ∷ record { refusal = 14; word = "refusal"; values = [] } ∷ []
+  -- the numbers that each can give: 3 to 11; 1 to 13; 1, 2 and 14 to 21
+  pub of-section : OfSection 3 × OfSection 11
+  pub of-section-not : (OfSection 2 → ⊥) × (OfSection 12 → ⊥)
+  pub of-offer : OfOffer 1 × OfOffer 13
+  pub of-offer-not : (OfOffer 0 → ⊥) × (OfOffer 14 → ⊥)
+  pub of-tuning : OfTuning 1 × OfTuning 2 × OfTuning 14 × OfTuning 21
+  pub of-tuning-not : (OfTuning 0 → ⊥) × (OfTuning 3 → ⊥) × (OfTuning 13 → ⊥) × (OfTuning 22 → ⊥)
+
+neither : {A B : Type 0} → (A → ⊥) → (B → ⊥) → A ⊎ B → ⊥
+neither f g (inl a) = f a
+neither f g (inr b) = g b
 
 pub said-clauses : SaidClauses
 unfolding computed
@@ -60,4 +73,15 @@ said-clauses =
       to-descriptor = refl;
       to-offer = refl;
       to-channel = refl;
+      of-section = ((omega arith, omega arith), (omega arith, omega arith));
+      of-section-not = (λ n. omega (arith, n .0), λ n. omega (arith, n .1));
+      of-offer = ((omega arith, omega arith), (omega arith, omega arith));
+      of-offer-not = (λ n. omega (arith, n .0), λ n. omega (arith, n .1));
+      of-tuning =
+          (inl (omega arith, omega arith), inl (omega arith, omega arith), inr (omega arith, omega arith), inr (omega arith, omega arith));
+      of-tuning-not =
+          (neither (λ n. omega (arith, n .0)) (λ n. omega (arith, n .0)),
+          neither (λ n. omega (arith, n .1)) (λ n. omega (arith, n .0)),
+          neither (λ n. omega (arith, n .1)) (λ n. omega (arith, n .0)),
+          neither (λ n. omega (arith, n .1)) (λ n. omega (arith, n .1)));
     }
