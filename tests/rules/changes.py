@@ -13,7 +13,7 @@ Parts.antt and Growth.antt what their relations ask; signatures, patterns, comme
     field        a field of a struct for its neighbour of the same type
     argument     a definition's argument for the next one of its type
     word         a table or an answer for its neighbour, true for false, a printed text with another letter
-    demand       of a relation of Parts.antt or Growth.antt one field left out
+    demand       of a relation of Parts.antt or Growth.antt one thing that it asks for left out
 """
 import dataclasses
 import re
@@ -27,7 +27,7 @@ RELATIONS = ("Parts", "Growth")
 OPERATORS = {"+": "-", "-": "+", "*": "+", "/": "%", "%": "/", "^": "*"}
 COMPARED = {"leb": "ltb", "ltb": "leb"}
 TESTED = {"cond", "unless", "needs"}
-ENDS = {";", ",", "∷", "++", "≡", "→", "in", "&&", "||", "="}
+ENDS = {";", ",", "∷", "++", "≡", "→", "in", "&&", "||", "=", "×"}
 NEIGHBOURS = {
     "Cds": "Mms", "Mms": "Vcm", "Vcm": "Dcm", "Dcm": "Cds", "true": "false", "false": "true", "OtherMap": "Repeat",
     "Repeat": "OtherMap", "Stored": "Live", "Live": "Stored",
@@ -37,6 +37,10 @@ IMPORTS = (
     "use Prim.Native.Nat.{_+_, _-_, _*_, _/_, _%_, _^_}\n"
     "use mathlib.Core.Bool.{true, false}\n"
     "use lib.Dec.{leb, ltb}\n"
+)
+NEIGHBOUR_IMPORTS = (
+    "use Rattle.rules.specs.declared.Table.the-variants.{Cds, Mms, Vcm, Dcm}\n"
+    "use Rattle.rules.specs.declared.Answer.the-variants.{OtherMap, Repeat, Stored, Live}\n"
 )
 
 
@@ -289,6 +293,16 @@ def shown(text, start, end, new):
     return " ".join(words.split())
 
 
+def pair_demands(file, text, span, tokens):
+    """Of a relation that asks for several things at once, with × between them: each of them left out."""
+    pairs = [at for at, token in enumerate(tokens) if token.text == "×"]
+    for at in pairs:
+        asked = [(at + 1, operand(tokens, at, 1))] + ([(operand(tokens, at, -1), at - 1)] if at == pairs[0] else [])
+        for first, last in asked:
+            start, end = tokens[first].start, tokens[last].end
+            yield Change(file, span.name, "demand", start, end, "Unit {0}", shown(text, start, end, "asked for nothing"))
+
+
 def demands(file, text):
     """Of the relations of a file: each field left out, but for those of `Grown` that speak of the parts of its sections, whatever they are. That
     these ask for enough is condition 3 itself."""
@@ -312,6 +326,8 @@ def changes_of(crate, file):
         for at in range(len(inside)):
             for kind, first, last, new in token_changes(text, inside, at, structs, span.arguments):
                 yield Change(file, span.name, kind, first, last, new, shown(text, first, last, new))
+        if file in RELATIONS:
+            yield from pair_demands(file, text, span, inside)
     if file in RELATIONS:
         yield from demands(file, text)
 
@@ -319,7 +335,8 @@ def changes_of(crate, file):
 def changed(crate, change):
     """The text of the file with the change made."""
     text = (crate / "specs" / f"{change.file}.antt").read_text(encoding="utf-8")
-    return IMPORTS + text[: change.start] + change.new + text[change.end :]
+    brought = IMPORTS + (NEIGHBOUR_IMPORTS if change.new in NEIGHBOURS.values() and change.new not in ("true", "false") else "")
+    return brought + text[: change.start] + change.new + text[change.end :]
 
 
 def files_of(crate):

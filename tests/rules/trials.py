@@ -18,6 +18,8 @@ ERROR = re.compile(r"^(\S+):(\d+):\d+: error: (.*)$")
 IMPORTED = re.compile(r"\buse Rattle·(?:rules|examples)(?:·specs|·proofs)?\.(specs|proofs)\.(?!declared)(\w+)")
 FOLLOWS = re.compile(r"`[^`]+`: `[^`]+` (?:was not admitted|cannot be unfolded because it was not admitted)")
 SECONDS = 300
+# the parts of HoldingClauses that compute with a whole store, which takes most of its time; HoldingClauses/quick is the file without them
+STORED = ("one", "one-first", "two-tables", "stores", "stores-answer", "stores-state", "touched", "at-once")
 
 
 @dataclasses.dataclass
@@ -37,9 +39,14 @@ class Tree:
         self.specs = {f: (self.crate / "specs" / f"{f}.antt").read_text(encoding="utf-8") for f in changes.files_of(self.crate)}
 
     def fact(self, name):
+        name, quick = name.removesuffix("/quick"), name.endswith("/quick")
         own = self.crate / "proofs" / f"{name}.antt"
         file = own if own.is_file() else self.examples / f"{name}.antt"
-        return file.read_text(encoding="utf-8")
+        text = file.read_text(encoding="utf-8")
+        for part in STORED if quick else ():
+            text = re.sub(rf"^  pub {part} :.*\n(?:      .*\n)*", "", text, flags=re.MULTILINE)
+            text = re.sub(rf"^      {part} = .*\n", "", text, flags=re.MULTILINE)
+        return text
 
     def words(self, name):
         """The definitions of a file of facts, up to the record of its facts."""
@@ -47,7 +54,7 @@ class Tree:
 
     def copied(self, facts):
         """The texts of a copy: the facts that are asked, and the words and rules that they import, each with those that it imports."""
-        texts = {"specs": {}, "proofs": {name: self.fact(name) for name in facts}}
+        texts = {"specs": {}, "proofs": {name.removesuffix("/quick"): self.fact(name) for name in facts}}
         left = list(texts["proofs"].values())
         while left:
             for part, name in IMPORTED.findall(left.pop()):

@@ -307,9 +307,10 @@ unfolding computed told
 tells = refl
 
 pub untouched : Untouched 0x82 grownList × Untouched 0x93 grownList
-untouched =
-    ((λ e. unlike refl e, (λ e. unlike refl e, (λ e. unlike refl e, tt))),
-    (λ e. unlike refl e, (λ e. unlike refl e, (λ e. unlike refl e, tt))))
+untouched = (
+  (λ e. unlike refl e, (λ e. unlike refl e, (λ e. unlike refl e, tt))),
+  (λ e. unlike refl e, (λ e. unlike refl e, (λ e. unlike refl e, tt))),
+)
 
 -- a section of another protocol version
 pub other-protocol : OtherProtocol (hex "C2 30 0D 01 01 00 01 93 03 E5 00 00 56 DF 59 44")
