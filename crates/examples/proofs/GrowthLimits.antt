@@ -10,7 +10,7 @@ use Rattle.rules.specs.Descriptors.{Descriptor}
 use Rattle.rules.specs.Section.{Content, wrong, right}
 use Rattle.rules.specs.Form.{form}
 use Rattle.rules.specs.Parts.{Piece, Parts, Shaped, Fair}
-use Rattle.rules.specs.Growth.{empty, kept, added, GrownRevision, stays, other, revised, GrownClosing, FullerPieces, end, GrownParts, Grown, Untouched, OtherProtocol}
+use Rattle.rules.specs.Growth.{empty, kept, added, SameTag, GrownRevision, stays, other, revised, GrownClosing, FullerPieces, end, GrownParts, Grown, Untouched, OtherProtocol}
 use Rattle.rules.specs.declared.Table.the-variants.{Cds, Vcm, Dcm}
 use Rattle.rules.proofs.Hex.{hex}
 use Rattle.rules.proofs.Truths.{differ, unlike, not-most}
@@ -42,6 +42,8 @@ pub record GrowthLimits : Type 0 where
   pub version : GrownRevision (d 0x93 "E5 01 03") (d 0x93 "F5 01 03") → ⊥
   pub number : GrownRevision (d 0x93 "E5 01 03") (d 0x93 "E5 02 03") → ⊥
   pub last : GrownRevision (d 0x93 "E5 01 03") (d 0x93 "E5 01 02") → ⊥
+  -- ---- a descriptor that was there keeps its tag
+  pub tag : SameTag (d 0x80 "01") (d 0x81 "01") → ⊥
   -- ---- the parts of a section: four bytes of header and the head in front, records of their size, as many as the count says, lists only
   -- behind records that have them
   pub header-short : Shaped (form Cds) (parts 0xC2 0x30 (hex "00 01 01") [] record1) → ⊥
@@ -102,6 +104,7 @@ growth-limits =
       version = λ g. unlike refl (g .same .version);
       number = λ g. unlike refl (g .same .number);
       last = λ g. unlike refl (g .same .last);
+      tag = λ e. unlike refl e;
       header-short = λ s. unlike refl (s .header);
       header-long = λ s. unlike refl (s .header);
       head-none = λ s. unlike refl (s .head);
