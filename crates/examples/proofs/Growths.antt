@@ -302,7 +302,9 @@ unfolding computed
 parts-fair = (refl, refl, (refl, refl, tt))
 
 -- what the descriptor question tells, of a section; and the tags that growth left alone
-pub tells : map (told (hex "AA BB CC DD")) (Asked.Refused 5 ∷ Asked.Absent ∷ Asked.There 1 2 ∷ []) ≡ Told.refused 5 ∷ Told.none ∷ Told.body (hex "BB CC") ∷ []
+pub tells :
+    map (told (hex "AA BB CC DD")) (Asked.Refused 5 ∷ Asked.Absent ∷ Asked.There 1 2 ∷ [])
+    ≡ Told.refused 5 ∷ Told.none ∷ Told.body (hex "BB CC") ∷ []
 unfolding computed told
 tells = refl
 
