@@ -1,7 +1,7 @@
 """Every small change of the rules: one comparison, constant, field, operand or word of crates/rules/specs made another, one at a time.
 
 A change is a place in a file and the text that stands there instead. What is changed is what a definition says, behind its `=`, and in
-Growth.antt what its relations ask; signatures, patterns, comments and imports stay. The kinds:
+Parts.antt and Growth.antt what their relations ask; signatures, patterns, comments and imports stay. The kinds:
 
     number       a constant one higher, and one lower
     compared     leb for ltb and the other way round; eqb loosened to leb, either way round
@@ -13,7 +13,7 @@ Growth.antt what its relations ask; signatures, patterns, comments and imports s
     field        a field of a struct for its neighbour of the same type
     argument     a definition's argument for the next one of its type
     word         a table or an answer for its neighbour, true for false, a printed text with another letter
-    demand       of a relation of Growth.antt one field left out
+    demand       of a relation of Parts.antt or Growth.antt one thing that it asks for left out
 """
 import dataclasses
 import re
@@ -21,11 +21,13 @@ import re
 WORD = re.compile(r'"(?:[^"\\]|\\.)*"|--[^\n]*|[^\s(){};,"]+|[(){};,]')
 NUMBER = re.compile(r"0x[0-9A-Fa-f]+|[0-9]+")
 NAME = re.compile(r"[^\W\d][\w·'-]*")
-DECLARED = re.compile(r"^ *(?:unfoldable|abbrev) pub (?P<name>\S+)|^pub (?P<kind>record|data) (?P<type>\S+)")
+DECLARED = re.compile(r"^ *(?:unfoldable|abbrev) pub (?!use )(?P<name>\S+)|^ *pub (?P<kind>record|data) (?P<type>\S+)")
+# the files whose relations ask for something; the other records only name types
+RELATIONS = ("Parts", "Growth")
 OPERATORS = {"+": "-", "-": "+", "*": "+", "/": "%", "%": "/", "^": "*"}
 COMPARED = {"leb": "ltb", "ltb": "leb"}
 TESTED = {"cond", "unless", "needs"}
-ENDS = {";", ",", "∷", "++", "≡", "→", "in", "&&", "||", "="}
+ENDS = {";", ",", "∷", "++", "≡", "→", "in", "&&", "||", "=", "×"}
 NEIGHBOURS = {
     "Cds": "Mms", "Mms": "Vcm", "Vcm": "Dcm", "Dcm": "Cds", "true": "false", "false": "true", "OtherMap": "Repeat",
     "Repeat": "OtherMap", "Stored": "Live", "Live": "Stored",
@@ -35,6 +37,10 @@ IMPORTS = (
     "use Prim.Native.Nat.{_+_, _-_, _*_, _/_, _%_, _^_}\n"
     "use mathlib.Core.Bool.{true, false}\n"
     "use lib.Dec.{leb, ltb}\n"
+)
+NEIGHBOUR_IMPORTS = (
+    "use Rattle.rules.specs.declared.Table.the-variants.{Cds, Mms, Vcm, Dcm}\n"
+    "use Rattle.rules.specs.declared.Answer.the-variants.{OtherMap, Repeat, Stored, Live}\n"
 )
 
 
@@ -192,7 +198,7 @@ def token_changes(text, tokens, at, structs, arguments):
             yield "field", token.start, token.end, "." + other
     elif word in NEIGHBOURS:
         yield "word", token.start, token.end, NEIGHBOURS[word]
-    elif word in arguments:
+    elif word in arguments and [t.text for t in tokens[at + 1 : at + 2]] != ["="]:
         alike = [name for name, kind in arguments.items() if kind == arguments[word]]
         if len(alike) > 1:
             yield "argument", token.start, token.end, alike[(alike.index(word) + 1) % len(alike)]
@@ -227,12 +233,22 @@ class Span:
 
 def arguments_of(left, types):
     """The names that the left side of an equation binds, each with its type; what is bound in one pattern counts as of one type."""
-    patterns = re.findall(r"\(.*?\)|\S+", left)[1:]
+    patterns = [p for p in re.findall(r"\(.*?\)|\{.*?\}|\S+", left)[1:] if not p.startswith("{")]
     arguments = {p: t for p, t in zip(patterns, types) if NAME.fullmatch(p)}
     for pattern in patterns:
         if pattern.startswith("("):
             arguments |= {w: pattern for w in re.findall(r"[^\s()]+", pattern)[1:] if NAME.fullmatch(w)}
     return arguments
+
+
+def equals_in(line):
+    """The place of the = of an equation: the first one outside of brackets."""
+    depth = 0
+    for at, letter in enumerate(line):
+        depth += (letter in "({") - (letter in ")}")
+        if depth == 0 and re.match(r" =\s", line[at : at + 3]):
+            return at + 1
+    return None
 
 
 def span_of(line, at, name, kind, types):
@@ -241,26 +257,30 @@ def span_of(line, at, name, kind, types):
     if kind and " : " in line:
         field = bare.removeprefix("pub ").split()[0]
         return Span(f"{name}.{field}", {}, at + line.index(" : ") + 3, at + len(line))
-    equals = re.search(r"(?<= )=(?=\s)", line)
+    equals = equals_in(line)
     if not kind and equals and re.match(rf"{re.escape(name)}( |$)", bare):
-        return Span(name, arguments_of(line[: equals.start()], types), at + equals.end(), at + len(line))
+        return Span(name, arguments_of(line[:equals], types), at + equals + 1, at + len(line))
     return None
 
 
 def spans_of(text):
-    """The spans of a file, in its order. A line that begins none belongs to the one before it."""
-    spans, at, name, kind, types = [], 0, None, None, []
+    """The spans of a file, in its order. A line that begins none belongs to the one before it, or to the signature above its equation."""
+    spans, at, name, kind, signature = [], 0, None, None, ""
     for line in text.splitlines(keepends=True):
         declared = DECLARED.match(line)
         if declared:
             kind, name = declared["kind"], declared["name"] or declared["type"]
-            types = types_of(line.partition(" : ")[2])
+            signature = line.partition(" : ")[2]
+        elif line.startswith("module "):
+            name = None
         elif name and line.strip() and not line.strip().startswith("--"):
-            begins = span_of(line, at, name, kind, types)
+            begins = span_of(line, at, name, kind, types_of(signature))
             if begins:
                 spans.append(begins)
             elif spans and spans[-1].name.split(".")[0] == name:
                 spans[-1].end = at + len(line)
+            else:
+                signature += line
         at += len(line)
     return spans
 
@@ -273,15 +293,25 @@ def shown(text, start, end, new):
     return " ".join(words.split())
 
 
+def pair_demands(file, text, span, tokens):
+    """Of a relation that asks for several things at once, with × between them: each of them left out."""
+    pairs = [at for at, token in enumerate(tokens) if token.text == "×"]
+    for at in pairs:
+        asked = [(at + 1, operand(tokens, at, 1))] + ([(operand(tokens, at, -1), at - 1)] if at == pairs[0] else [])
+        for first, last in asked:
+            start, end = tokens[first].start, tokens[last].end
+            yield Change(file, span.name, "demand", start, end, "Unit {0}", shown(text, start, end, "asked for nothing"))
+
+
 def demands(file, text):
-    """Of the relations of Growth.antt: each field left out, but for those of `Grown` that speak of the parts of its sections, whatever they are. That
+    """Of the relations of a file: each field left out, but for those of `Grown` that speak of the parts of its sections, whatever they are. That
     these ask for enough is condition 3 itself."""
-    for block in re.finditer(r"^pub record (\w+) \(.*?\) : Type 0 where\n((?:  .*\n)+)", text, re.MULTILINE):
-        for field in re.finditer(r"^  pub (\w+) : (.*)\n", block[2], re.MULTILINE):
+    for block in re.finditer(r"^( *)pub record (?!(?:Piece|Parts) )(\w+)(?: \(.*?\))* : Type 0 where\n((?:\1  .*\n)+)", text, re.MULTILINE):
+        for field in re.finditer(r"^ *pub (\w+) : (.*)\n", block[3], re.MULTILINE):
             if re.search(r"before|after|^Content$|^Parts$", field[2]):
                 continue
-            start = block.start(2) + field.start(2)
-            yield Change(file, f"{block[1]}.{field[1]}", "demand", start, start + len(field[2]), "Unit {0}", f"⟨{field[2]} ⇒ asked for nothing⟩")
+            start = block.start(3) + field.start(2)
+            yield Change(file, f"{block[2]}.{field[1]}", "demand", start, start + len(field[2]), "Unit {0}", f"⟨{field[2]} ⇒ asked for nothing⟩")
 
 
 def changes_of(crate, file):
@@ -291,20 +321,22 @@ def changes_of(crate, file):
     tokens = tokens_of(text)
     for span in spans_of(text):
         inside = [t for t in tokens if span.start <= t.start < span.end]
-        # a record or a relation has rules of its own in Growth.antt alone; elsewhere it only names types
-        if "." in span.name and file != "Growth":
+        if "." in span.name and file not in RELATIONS:
             continue
         for at in range(len(inside)):
             for kind, first, last, new in token_changes(text, inside, at, structs, span.arguments):
                 yield Change(file, span.name, kind, first, last, new, shown(text, first, last, new))
-    if file == "Growth":
+        if file in RELATIONS:
+            yield from pair_demands(file, text, span, inside)
+    if file in RELATIONS:
         yield from demands(file, text)
 
 
 def changed(crate, change):
     """The text of the file with the change made."""
     text = (crate / "specs" / f"{change.file}.antt").read_text(encoding="utf-8")
-    return IMPORTS + text[: change.start] + change.new + text[change.end :]
+    brought = IMPORTS + (NEIGHBOUR_IMPORTS if change.new in NEIGHBOURS.values() and change.new not in ("true", "false") else "")
+    return brought + text[: change.start] + change.new + text[change.end :]
 
 
 def files_of(crate):

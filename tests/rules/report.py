@@ -16,15 +16,16 @@ KINDS = {
     "field": "a field for its neighbour of the same type",
     "argument": "an argument for the next one of its type",
     "word": "a table, an answer, true or false, or a letter of a printed text for another",
-    "demand": "of a relation of growth one thing that it asks for left out",
+    "demand": "of a relation of `Parts` or `Growth` one thing that it asks for left out",
 }
 HEAD = """# Changed rules
 
-What `tests/rules/try` last said. It makes small changes of the rules (`crates/rules/specs`), one at a time, and asks the prover of each whether the computed
-facts still hold: those of `crates/examples` and, in `crates/rules/proofs`, `Examples` and `Readings`. It tries them on a copy that has the rules and these facts
-alone, so that no proof script that merely breaks counts as a refusal. A change that is *no rule* takes a neighbour of another type, so that the text is no
-definition. One that is *alike* is refused by no fact because it means the same; the reasons are below. A run can be continued (`--left`): what was refused before
-is then not tried again.
+What `tests/rules/try` last said. It makes small changes of the rules (`crates/rules/specs`), one at a time, and asks the prover of each whether the
+computed facts still hold: those of `crates/examples` and, in `crates/rules/proofs`, `Examples` and `Readings`. It tries them on a copy that has the
+rules and these facts alone, so that no proof script that merely breaks counts as a refusal. `Offering`, `Answered`, `Runs` and `InParts` are
+words of theorems and no rules: of them only the two definitions that compute are tried. A change that is *no rule* takes a neighbour of another type,
+so that the text is no definition. One that is *alike* is refused by no fact because it means the same; the reasons are below. A run can be continued
+(`--left`): what was refused before is then not tried again.
 
 """
 

@@ -1,7 +1,8 @@
 """Asks the prover of each change of the rules whether a computed fact refuses it.
 
-The crate that is tried has the rules and the files of computed facts alone, so that a proof script that breaks doesn't count for a fact. Several copies
-of it stand side by side in one crate, each with one change, since most of a trial's time is the prover's start.
+The crate that is tried has the files of computed facts that are asked, and what they import, alone: the rules, without the words of theorems, and of other
+files of facts the definitions in front of their facts. So a proof script that breaks doesn't count for a fact. Several copies of it stand side by side in one
+crate, each with one change, since most of a trial's time is the prover's start.
 """
 import dataclasses
 import os
@@ -14,8 +15,11 @@ import tempfile
 import changes
 
 ERROR = re.compile(r"^(\S+):(\d+):\d+: error: (.*)$")
+IMPORTED = re.compile(r"\buse Rattle·(?:rules|examples)(?:·specs|·proofs)?\.(specs|proofs)\.(?!declared)(\w+)")
 FOLLOWS = re.compile(r"`[^`]+`: `[^`]+` (?:was not admitted|cannot be unfolded because it was not admitted)")
 SECONDS = 300
+# the parts of HoldingClauses that compute with a whole store, which takes most of its time; HoldingClauses/quick is the file without them
+STORED = ("one", "one-first", "two-tables", "stores", "stores-answer", "stores-state", "touched", "at-once")
 
 
 @dataclasses.dataclass
@@ -35,9 +39,29 @@ class Tree:
         self.specs = {f: (self.crate / "specs" / f"{f}.antt").read_text(encoding="utf-8") for f in changes.files_of(self.crate)}
 
     def fact(self, name):
+        name, quick = name.removesuffix("/quick"), name.endswith("/quick")
         own = self.crate / "proofs" / f"{name}.antt"
         file = own if own.is_file() else self.examples / f"{name}.antt"
-        return file.read_text(encoding="utf-8")
+        text = file.read_text(encoding="utf-8")
+        for part in STORED if quick else ():
+            text = re.sub(rf"^  pub {part} :.*\n(?:      .*\n)*", "", text, flags=re.MULTILINE)
+            text = re.sub(rf"^      {part} = .*\n", "", text, flags=re.MULTILINE)
+        return text
+
+    def words(self, name):
+        """The definitions of a file of facts, up to the record of its facts."""
+        return re.split(rf"^pub record {name} ", self.fact(name), maxsplit=1, flags=re.MULTILINE)[0]
+
+    def copied(self, facts):
+        """The texts of a copy: the facts that are asked, and the words and rules that they import, each with those that it imports."""
+        texts = {"specs": {}, "proofs": {name.removesuffix("/quick"): self.fact(name) for name in facts}}
+        left = list(texts["proofs"].values())
+        while left:
+            for part, name in IMPORTED.findall(left.pop()):
+                if name not in texts[part]:
+                    texts[part][name] = self.specs[name] if part == "specs" else self.words(name)
+                    left.append(texts[part][name])
+        return texts
 
 
 def renamed(text, copy):
@@ -48,16 +72,14 @@ def renamed(text, copy):
 
 
 def write_copy(tree, where, copy, change, facts):
-    for part, names in (("specs", tree.specs), ("proofs", facts)):
+    for part, texts in tree.copied(facts).items():
         folder = where / part / copy
         folder.mkdir(parents=True)
-        (where / part / f"{copy}.antt").write_text("".join(f"pub mod {name}\n" for name in names), encoding="utf-8")
-    for name, text in tree.specs.items():
-        if change and change.file == name:
-            text = changes.changed(tree.crate, change)
-        (where / "specs" / copy / f"{name}.antt").write_text(renamed(text, copy), encoding="utf-8")
-    for name in facts:
-        (where / "proofs" / copy / f"{name}.antt").write_text(renamed(tree.fact(name), copy), encoding="utf-8")
+        (where / part / f"{copy}.antt").write_text("".join(f"pub mod {name}\n" for name in texts), encoding="utf-8")
+        for name, text in texts.items():
+            if part == "specs" and change and change.file == name:
+                text = changes.changed(tree.crate, change)
+            (folder / f"{name}.antt").write_text(renamed(text, copy), encoding="utf-8")
 
 
 def part_at(where, file, line):

@@ -9,13 +9,29 @@ use Rattle.rules.specs.Bytes.{byte}
 use Rattle.rules.specs.Descriptors.{Descriptor}
 use Rattle.rules.specs.Section.{Content, wrong, right}
 use Rattle.rules.specs.Form.{form}
-use Rattle.rules.specs.Parts.{Piece, Shaped}
-use Rattle.rules.specs.Growth.{empty, kept, added, GrownRevision, GrownClosing, FullerPieces, end, GrownParts, Grown}
+use Rattle.rules.specs.Parts.{Piece, Shaped, Fair}
+use Rattle.rules.specs.Growth.{empty, kept, added, SameTag, GrownRevision, stays, other, revised, GrownClosing, FullerPieces, end, GrownParts, Grown, Untouched, OtherProtocol}
 use Rattle.rules.specs.declared.Table.the-variants.{Cds, Vcm, Dcm}
 use Rattle.rules.proofs.Hex.{hex}
 use Rattle.rules.proofs.Truths.{differ, unlike, not-most}
 use Rattle.rules.proofs.Computed.{computed}
-use Rattle.examples.proofs.Plants.{d, p, carriersPlain, parts, record1, channel1}
+use Rattle.examples.proofs.Plants.{d, p, carriersPlain, parts, record1, channel1, twoRecords}
+
+pub revision-kept : GrownRevision (d 0x93 "E5 00 00") (d 0x93 "05 00 00 AA")
+unfolding computed
+revision-kept = record { was = refl; is = refl; same = record { long = omega arith; longer = omega arith; version = refl; number = refl; last = refl } }
+
+-- a closing list grown: 0x82 stays, the revision is kept, 0x80 gets another body, 0x81 and 0x83 are added
+abbrev pub grownList :
+    GrownClosing
+    (d 0x82 "" ∷ d 0x93 "E5 00 00" ∷ d 0x80 "01" ∷ [])
+    (d 0x82 "" ∷ d 0x93 "05 00 00 AA" ∷ d 0x80 "02" ∷ d 0x81 "" ∷ d 0x83 "" ∷ [])
+grownList =
+    kept (stays refl)
+    (kept {d = d 0x93 "E5 00 00"} {e = d 0x93 "05 00 00 AA"} (revised revision-kept)
+    (kept {d = d 0x80 "01"} {e = d 0x80 "02"} (other (λ e. omega (arith, e)) refl)
+    (added (d 0x81 "") (λ e. omega (arith, e))
+    (added (d 0x83 "") (λ e. omega (arith, e)) empty))))
 
 pub record GrowthLimits : Type 0 where
   -- ---- the revision descriptor: it was one and is one, of 3 bytes or more, with the same version, number and last
@@ -26,6 +42,8 @@ pub record GrowthLimits : Type 0 where
   pub version : GrownRevision (d 0x93 "E5 01 03") (d 0x93 "F5 01 03") → ⊥
   pub number : GrownRevision (d 0x93 "E5 01 03") (d 0x93 "E5 02 03") → ⊥
   pub last : GrownRevision (d 0x93 "E5 01 03") (d 0x93 "E5 01 02") → ⊥
+  -- ---- a descriptor that was there keeps its tag
+  pub tag : SameTag (d 0x80 "01") (d 0x81 "01") → ⊥
   -- ---- the parts of a section: four bytes of header and the head in front, records of their size, as many as the count says, lists only
   -- behind records that have them
   pub header-short : Shaped (form Cds) (parts 0xC2 0x30 (hex "00 01 01") [] record1) → ⊥
@@ -33,8 +51,12 @@ pub record GrowthLimits : Type 0 where
   pub head-none : Shaped (form Cds) (parts 0xC2 0x30 (hex "00 01 01 01") (0 ∷ []) record1) → ⊥
   pub head-short : Shaped (form Dcm) (parts 0xC4 0x30 (hex "00 01 00 00") (hex "00 02") []) → ⊥
   pub own-short : Shaped (form Cds) (parts 0xC2 0x30 (hex "00 01 01 01") [] (p "02 80 30 81" [] ∷ [])) → ⊥
+  pub second-short : Shaped (form Cds) (parts 0xC2 0x30 (hex "00 01 02 01") [] (p "02 80 30 81 C8" [] ∷ p "02 80 30 81" [] ∷ [])) → ⊥
   pub fewer : Shaped (form Cds) (parts 0xC2 0x30 (hex "00 01 02 01") [] record1) → ⊥
   pub no-list : Shaped (form Vcm) (parts 0xC4 0x30 (hex "00 00 00 00") (hex "00 00 00 00 00 00 01") (channel1 (d 0x80 "" ∷ []))) → ⊥
+  -- ---- records that are not fair: a zero bit is 1; an index above 255, of the second record, which counts on from the first
+  pub fair-zeros : Fair (form Cds) (parts 0xC2 0x30 (hex "00 01 01 01") [] (p "02 C0 30 81 C8" [] ∷ [])) → ⊥
+  pub fair-index : Fair (form Cds) (twoRecords 0xFE) → ⊥
   -- ---- what stays: the table number, the zero bits of byte 1 and nothing else of it, what stands in front of the records
   pub other-number : GrownParts (parts 0xC2 0x30 [] [] []) (parts 0xC4 0x30 [] [] []) → ⊥
   pub zero-bit : GrownParts (parts 0xC2 0x00 [] [] []) (parts 0xC2 0x40 [] [] []) → ⊥
@@ -47,6 +69,15 @@ pub record GrowthLimits : Type 0 where
   pub not-right : (g : List ℕ) → Grown (hex "C2 30") g → ⊥
   pub not-fitting : Grown carriersPlain (hex "C2 30") → ⊥
   pub not-sealed : Grown carriersPlain (hex "C2 00 20 00 01 01 01 02 80 30 81 C8 02 93 00 80 01 AA 81 00 93 05 05 00 00 AA BB C0 02 01 02 7D BB 44 31") → ⊥
+  -- ---- the descriptor question leaves out what growth changed and what it added
+  pub touched-other : Untouched 0x80 grownList → ⊥
+  pub touched-added : Untouched 0x81 grownList → ⊥
+  pub touched-last : Untouched 0x83 grownList → ⊥
+  -- ---- another protocol version: L is right, so are table number and CRC, and the version is the five low bits of byte 3
+  pub protocol-three : OtherProtocol (hex "C2 30 0E 01 01 00 01 93 03 E5 00 00 D3 AF A4 5A") → ⊥
+  pub protocol-four : OtherProtocol (hex "C3 30 0D 01 01 00 01 93 03 E5 00 00 51 29 BA 42") → ⊥
+  pub protocol-five : OtherProtocol (hex "C2 30 0D 01 01 00 01 93 03 E5 00 00 56 DF 59 45") → ⊥
+  pub protocol-six : OtherProtocol (hex "C2 30 0D 20 01 00 01 93 03 E5 00 00 94 55 C4 98") → ⊥
 
 -- records are put nowhere and taken nowhere
 fuller-count : {ps qs : List Piece} → FullerPieces ps qs → length ps ≡ length qs
@@ -73,13 +104,17 @@ growth-limits =
       version = λ g. unlike refl (g .same .version);
       number = λ g. unlike refl (g .same .number);
       last = λ g. unlike refl (g .same .last);
+      tag = λ e. unlike refl e;
       header-short = λ s. unlike refl (s .header);
       header-long = λ s. unlike refl (s .header);
       head-none = λ s. unlike refl (s .head);
       head-short = λ s. unlike refl (s .head);
       own-short = λ s. unlike refl (s .sized .0);
+      second-short = λ s. unlike refl (s .sized .2 .0);
       fewer = λ s. unlike refl (s .count);
       no-list = λ s. unlike refl (ap length (s .sized .1 refl));
+      fair-zeros = λ f. differ (sym (f .0));
+      fair-index = λ f. differ (sym (f .2 .1));
       other-number = λ g. unlike refl (g .number);
       zero-bit = λ g. unlike refl (g .zeros);
       zero-bit-back = λ g. unlike refl (g .zeros);
@@ -90,4 +125,11 @@ growth-limits =
       not-right = λ s g. wrong-right (g .reads);
       not-fitting = λ g. differ (sym (g .fits));
       not-sealed = λ g. unlike refl (g .crc);
+      touched-other = λ u. u .0 refl;
+      touched-added = λ u. u .1 .0 refl;
+      touched-last = λ u. u .1 .1 .0 refl;
+      protocol-three = λ o. differ (sym (o .three));
+      protocol-four = λ o. differ (sym (o .four));
+      protocol-five = λ o. unlike refl (o .five);
+      protocol-six = λ o. o .six refl;
     }

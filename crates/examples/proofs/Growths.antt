@@ -3,22 +3,25 @@
 -- doesn't know; and the example plant, grown whole. By computation.
 use Prim.Native.Nat.{ℕ}
 use native.Mathlib.Omega.{arith}
-use mathlib.Core.Path.{refl}
-use mathlib.Core.List.{List, [], _∷_}
+use mathlib.Core.Path.{_≡_, refl}
+use mathlib.Core.List.{List, [], _∷_, map}
 use Rattle.rules.specs.Descriptors.{Descriptor}
 use Rattle.rules.specs.Form.{form}
 use Rattle.rules.specs.Section.{Structure, Content}
-use Rattle.rules.specs.Parts.{Shaped}
-use Rattle.rules.specs.Growth.{empty, kept, added, GrownRevision, stays, other, revised, end, next, GrownParts, Grown, GrownRun, grown}
+use Rattle.rules.specs.Parts.{Shaped, Fair}
+use Rattle.rules.specs.Parts as Parts
+use Rattle.rules.specs.Growth.{empty, kept, added, GrownRevision, stays, other, revised, end, next, GrownParts, Grown, GrownRun, grown, Told, told, Untouched, OtherProtocol}
 use Rattle.rules.specs.Growth
 use Rattle.rules.specs.declared.Table.{Table}
-use Rattle.rules.specs.declared.Table.the-variants.{Mms, Vcm, Dcm}
+use Rattle.rules.specs.declared.Table.the-variants.{Cds, Mms, Vcm, Dcm}
+use Rattle.rules.specs.declared.Asked.the-variants as Asked
 use Rattle.rules.specs.declared.Signal.the-variants.{Digital}
 use Rattle.rules.proofs.Hex.{hex}
 use Rattle.rules.proofs.Computed.{computed}
-use Rattle.rules.proofs.Truths.{differ}
+use Rattle.rules.proofs.Truths.{differ, unlike}
 use Rattle.rules.proofs.Examples.{modes, channels, ranges, c1Content, c7Ranges, c12Mode}
-use Rattle.examples.proofs.Plants.{examplePlant, d, p, carriersPlain, parts, channel1}
+use Rattle.examples.proofs.Plants.{examplePlant, d, p, carriersPlain, parts, channel1, twoRecords}
+use Rattle.examples.proofs.GrowthLimits.{grownList}
 
 -- what a section of version 5, 0 of 0, for map 0 reads as
 abbrev said : Table → Structure → List Descriptor → Content
@@ -286,7 +289,35 @@ included-grow =
       crc = refl;
     }
 
--- the example plant, grown
+-- what parts say: first channel and indices, counting on; and records that are fair, up to index 255
+pub parts-say :
+    Parts.said (form Dcm) (parts 0xC4 0x30 (hex "00 01 01 02") (hex "00 02 03") (p "83" [] ∷ p "05" [] ∷ p "81" [] ∷ []))
+    ≡ ranges 0x0102 2 c7Ranges
+unfolding computed
+parts-say = refl
+
+pub parts-fair : Fair (form Cds) (twoRecords 0xFD)
+unfolding computed
+parts-fair = (refl, refl, (refl, refl, tt))
+
+-- what the descriptor question tells, of a section; and the tags that growth left alone
+pub tells :
+    map (told (hex "AA BB CC DD")) (Asked.Refused 5 ∷ Asked.Absent ∷ Asked.There 1 2 ∷ [])
+    ≡ Told.refused 5 ∷ Told.none ∷ Told.body (hex "BB CC") ∷ []
+unfolding computed told
+tells = refl
+
+pub untouched : Untouched 0x82 grownList × Untouched 0x93 grownList
+untouched = (
+  (λ e. unlike refl e, (λ e. unlike refl e, (λ e. unlike refl e, tt))),
+  (λ e. unlike refl e, (λ e. unlike refl e, (λ e. unlike refl e, tt))),
+)
+
+-- a section of another protocol version
+pub other-protocol : OtherProtocol (hex "C2 30 0D 01 01 00 01 93 03 E5 00 00 56 DF 59 44")
+unfolding computed
+other-protocol = record { three = refl; four = refl; five = refl; six = λ e. unlike refl e }
+
 -- a revision descriptor with other reserved bits and a byte more; a list behind a record that has a descriptor count; all reserved bits of byte 1, with the
 -- four high bits of L, set and cleared
 pub revision-grows : GrownRevision (d 0x93 "E5 01 03") (d 0x93 "05 01 03 AA")
@@ -314,6 +345,7 @@ pub reserved-cleared : GrownParts (parts 0xC2 0x3F [] [] []) (parts 0xC2 0x00 []
 unfolding computed
 reserved-cleared = record { number = refl; zeros = refl; header = refl; head = refl; pieces = end; closing = kept (stays refl) empty }
 
+-- the example plant, grown
 abbrev pub grownPlant : List (List ℕ)
 grownPlant = carriersGrown ∷ modesGrown ∷ rangesGrown ∷ channelsGrown ∷ []
 

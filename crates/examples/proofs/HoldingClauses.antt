@@ -5,7 +5,7 @@ use mathlib.Core.List.{List, [], _∷_, _++_, map}
 use mathlib.Core.Option.{none, some}
 use lib.ListN.{length, replicate}
 use Rattle.rules.specs.Section.{Content, right, wrong}
-use Rattle.rules.specs.Holding.{placeOf, storeSize, sectionAt, put, holdingOf, with, liveAt, gatheredAt, noneLive, noneGathered, freshHolding, fresh, holds, allOf, liveFormed, gatheredFormed, sameVersion, holdingFormed, stepOf, offeredAs, offered, touches, takesIn, storeAfter, answerTo, boxAfter}
+use Rattle.rules.specs.Holding.{placeOf, storeSize, sectionAt, put, listed, holdingOf, with, liveAt, gatheredAt, noneLive, noneGathered, freshHolding, fresh, holds, allOf, liveFormed, gatheredFormed, sameVersion, holdingFormed, stepOf, offeredAs, offered, touches, takesIn, storeAfter, answerTo, boxAfter}
 use Rattle.rules.specs.declared.Table.{Table}
 use Rattle.rules.specs.declared.Table.the-variants.{Cds, Mms, Vcm, Dcm}
 use Rattle.rules.specs.declared.LiveVersion.{LiveVersion}
@@ -110,6 +110,8 @@ pub record HoldingClauses : Type 0 where
   pub with-table :
       map (λ t. with mixed t both) (Cds ∷ Mms ∷ Vcm ∷ Dcm ∷ [])
       ≡ state both second third fourth ∷ state first both third fourth ∷ state first second both fourth ∷ state first second third both ∷ []
+  -- a list of tables has those that stand in it, at any place
+  pub in-list : map (λ t. asNumber (listed (Mms ∷ Vcm ∷ []) t)) (Cds ∷ Mms ∷ Vcm ∷ Dcm ∷ []) ≡ 0 ∷ 1 ∷ 1 ∷ 0 ∷ []
   -- the live half is the one set; gathering uses the other, whether anything is live or not
   pub live-half : map (λ t. liveAt mixed t 1) (Cds ∷ Mms ∷ Vcm ∷ Dcm ∷ []) ≡ 1 * 1024 ∷ 13 * 1024 ∷ 21 * 1024 ∷ 25 * 1024 ∷ []
   pub gathered-half : map (λ t. gatheredAt mixed t 1) (Cds ∷ Mms ∷ Vcm ∷ Dcm ∷ []) ≡ 5 * 1024 ∷ 9 * 1024 ∷ 17 * 1024 ∷ 29 * 1024 ∷ []
@@ -249,6 +251,7 @@ holding-clauses =
       starts = refl;
       of-tables = refl;
       with-table = refl;
+      in-list = refl;
       live-half = refl;
       gathered-half = refl;
       held-bits = refl;

@@ -68,5 +68,9 @@ parts number flags header head pieces =
 abbrev pub record1 : List Piece
 record1 = p "02 80 30 81 C8" [] ∷ []
 
+-- two records of carriers from an index on, of one and of two
+abbrev pub twoRecords : (first : ℕ) → Parts
+twoRecords first = parts 0xC2 0x30 (0 ∷ first ∷ 2 ∷ 1 ∷ []) [] (p "01 00 00 15 18" [] ∷ p "02 00 00 15 18" [] ∷ [])
+
 abbrev pub channel1 : List Descriptor → List Piece
 channel1 list = p "00 03 00 12 34 02 00 03 01" list ∷ []

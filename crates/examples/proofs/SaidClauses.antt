@@ -1,9 +1,14 @@
 -- "A definition gives this paper's number and values for each of the enum's cases": each case of the four enums, computed, with another value in every field.
+use native.Mathlib.Omega.{arith}
 use mathlib.Core.Path.{_≡_, refl}
+use mathlib.Core.Logic.{_⊎_, inl, inr}
 use mathlib.Core.List.{[], _∷_, map}
+use mathlib.Core.Option.{none, some}
 use lib.ListN.{replicate}
 use Rattle.rules.specs.Holding.{fresh}
-use Rattle.rules.specs.Said.{readSaid, askedSaid, answerSaid, tunedSaid, sectionSaid, askSaid, offerSaid, tuneSaid}
+use Rattle.rules.specs.Offering.{goesLive}
+use Rattle.rules.specs.Answered.{khzOf}
+use Rattle.rules.specs.Said.{readSaid, askedSaid, answerSaid, tunedSaid, sectionSaid, askSaid, offerSaid, tuneSaid, OfSection, OfOffer, OfTuning}
 use Rattle.rules.specs.declared.Table.the-variants.{Cds, Mms, Vcm, Dcm}
 use Rattle.rules.specs.declared.Read.the-variants as Read
 use Rattle.rules.specs.declared.Asked.the-variants as Asked
@@ -11,6 +16,7 @@ use Rattle.rules.specs.declared.Answer.the-variants as Answer
 use Rattle.rules.specs.declared.Tuned.the-variants as Tuned
 use Rattle.rules.proofs.Computed.{computed}
 use Rattle.examples.proofs.Plants.{plantDcm}
+use Rattle.examples.proofs.Sweeps.{swept, asNumber}
 
 pub record SaidClauses : Type 0 where
   pub refusals : readSaid (Read.Refused 3) ∷ askedSaid (Asked.Refused 4) ∷ answerSaid (Answer.Refused 5) ∷ tunedSaid (Tuned.Refused 6) ∷ []
@@ -44,9 +50,32 @@ pub record SaidClauses : Type 0 where
   pub to-channel :
       map (tuneSaid (fresh 0) (replicate 32768 0)) (3 ∷ 4096 ∷ [])
       ≡ record { refusal = 15; word = "refusal"; values = [] } ∷ record { refusal = 14; word = "refusal"; values = [] } ∷ []
+  -- the answer of a version that goes live; the frequency that the tuner is sent to, of a digital and an analogue channel and of no other
+  pub goes-live :
+      map (λ a. asNumber (goesLive a)) (Answer.Refused 5 ∷ Answer.OtherMap ∷ Answer.Repeat ∷ Answer.Stored 1 ∷ Answer.Live 5 ∷ [])
+      ≡ 0 ∷ 0 ∷ 0 ∷ 0 ∷ 1 ∷ []
+  pub sent-to :
+      map khzOf
+      (Tuned.Refused 20
+      ∷ Tuned.Digital 1 0 63000 3 (record { system = 2; inner = 15; split = 4; format = 8; symbols = 5056941 })
+      ∷ Tuned.Analogue 1 0 57000 4 5
+      ∷ Tuned.Application 1 0 7
+      ∷ [])
+      ≡ none ∷ some 63000 ∷ some 57000 ∷ none ∷ []
+  -- the numbers that each can give: 3 to 11; 1 to 13; 1, 2 and 14 to 21
+  pub of-section : OfSection 3 × OfSection 11
+  pub of-section-not : (OfSection 2 → ⊥) × (OfSection 12 → ⊥)
+  pub of-offer : OfOffer 1 × OfOffer 13
+  pub of-offer-not : (OfOffer 0 → ⊥) × (OfOffer 14 → ⊥)
+  pub of-tuning : OfTuning 1 × OfTuning 2 × OfTuning 14 × OfTuning 21
+  pub of-tuning-not : (OfTuning 0 → ⊥) × (OfTuning 3 → ⊥) × (OfTuning 13 → ⊥) × (OfTuning 22 → ⊥)
+
+neither : {A B : Type 0} → (A → ⊥) → (B → ⊥) → A ⊎ B → ⊥
+neither f g (inl a) = f a
+neither f g (inr b) = g b
 
 pub said-clauses : SaidClauses
-unfolding computed
+unfolding computed swept khzOf
 said-clauses =
     record {
       refusals = refl;
@@ -60,4 +89,18 @@ said-clauses =
       to-descriptor = refl;
       to-offer = refl;
       to-channel = refl;
+      goes-live = refl;
+      sent-to = refl;
+      of-section = ((omega arith, omega arith), (omega arith, omega arith));
+      of-section-not = (λ n. omega (arith, n .0), λ n. omega (arith, n .1));
+      of-offer = ((omega arith, omega arith), (omega arith, omega arith));
+      of-offer-not = (λ n. omega (arith, n .0), λ n. omega (arith, n .1));
+      of-tuning =
+          (inl (omega arith, omega arith), inl (omega arith, omega arith), inr (omega arith, omega arith), inr (omega arith, omega arith));
+      of-tuning-not = (
+        neither (λ n. omega (arith, n .0)) (λ n. omega (arith, n .0)),
+        neither (λ n. omega (arith, n .1)) (λ n. omega (arith, n .0)),
+        neither (λ n. omega (arith, n .1)) (λ n. omega (arith, n .0)),
+        neither (λ n. omega (arith, n .1)) (λ n. omega (arith, n .1)),
+      );
     }

@@ -3,10 +3,13 @@
 use Prim.Native.Nat.{ℕ}
 use mathlib.Core.Path.{_≡_, refl}
 use mathlib.Core.List.{List, [], _∷_, _++_, map}
+use mathlib.Core.Option.{Option, none, some}
 use Rattle.rules.specs.Crc.{bitsOf, crcOf}
 use Rattle.rules.specs.Descriptors.{Descriptor}
 use Rattle.rules.specs.Layout.{Numbered}
 use Rattle.rules.specs.Tables.{carriersZeros, carriersOf, carrierKhz, modeZeros, modeOf, vcmHeadZeros, vcmHeadOf, transportOf, channelZeros, channelOf, dcmHeadZeros, dcmHeadOf, rangeOf}
+use Rattle.rules.specs.Form.{form}
+use Rattle.rules.specs.Meaning.{Meaning, meant}
 use Rattle.rules.specs.Section.{Structure, Reading, wrong, right, content, withoutCrc, read, readAs, askedOf, partOf}
 use Rattle.rules.specs.declared.Table.{Table}
 use Rattle.rules.specs.declared.Table.the-variants.{Cds, Mms, Vcm, Dcm}
@@ -62,6 +65,11 @@ closing5 = record { tag = 0x93; body = hex "E5 00 00" } ∷ []
 abbrev pub behind : List ℕ → Reading
 behind s = read (content (withoutCrc s))
 
+-- what a section means that has passed checks 3 to 6, if it reads right
+abbrev pub meantBy : Reading → Option Meaning
+meantBy (wrong n) = none
+meantBy (right c) = some (meant c)
+
 -- descriptors in the closing list: 0x80, the revision, 0x81, and 0x80 again
 abbrev pub askedSection : List ℕ
 askedSection = hex "C2 30 17 00 01 00 01 80 02 AA BB 93 04 E5 00 00 FF 81 00 80 01 CC 7A C6 10 76"
@@ -94,7 +102,26 @@ pub record SectionFields : Type 0 where
         closing = record { tag = 0x80; body = [] } ∷ record { tag = 0x93; body = hex "DF FE FF 01 02 03" } ∷ [];
         revision = record { version = 31; number = 254; last = 255 };
       })
-  -- fields of ones: each has all its bits, and no other
+  -- the header of 0xC4 says the map number, and 0 for each field that it does not have
+  pub header-map :
+      form Vcm .header .look (hex "00 00 FF FE")
+      ≡ record { map = 0xFFFE; first = 0; count = 0; included = 0; splice = 0; time = 0 }
+  -- ---- what a section means: table, map number, first index or channel, splice, activation time, records
+  pub means-carriers :
+      meantBy (behind plantCds)
+      ≡ some (record { table = Cds; map = 0; first = 3; splice = 0; time = 0; lists = carriers 3 plantCarriers .lists })
+  pub means-channels :
+      meantBy (behind plantVcm)
+      ≡ some (record { table = Vcm; map = 0x0102; first = 0; splice = 1; time = 0x12345678; lists = channels 0x0102 1 1 0x12345678 plantChannels .lists })
+  pub means-ranges :
+      meantBy (behind plantDcm)
+      ≡ some (record { table = Dcm; map = 0x0102; first = 0x122; splice = 0; time = 0; lists = ranges 0x0102 0x122 plantRanges .lists })
+  -- and nothing else: not the revision, nor lists of descriptors and whether they are included, nor L and the reserved bits
+  pub means-same :
+      meantBy (read (content (hex "C4 30 00 00 00 01 02 00 80 12 34 56 78 01 00 03 00 12 34 02 00 03 01 93 03 E5 00 00")))
+      ≡ meantBy (read (content (hex "C4 05 66 00 00 01 02 20 80 12 34 56 78 01 00 03 00 12 34 02 00 03 01 01 80 01 AA 81 00 93 04 06 01 02 FF")))
+  pub means-nothing : meantBy (wrong 3) ≡ none
+  -- ---- fields of ones: each has all its bits, and no other
   pub ones-carriers :
       carriersOf (hex "FF FF FF FF FF")
       ≡ record { count = 255; spacing = record { unit = 1; number = 16383 }; first = record { unit = 1; number = 32767 } }
@@ -184,6 +211,12 @@ section-fields =
       reads-channels = refl;
       reads-ranges = refl;
       reads-revision = refl;
+      header-map = refl;
+      means-carriers = refl;
+      means-channels = refl;
+      means-ranges = refl;
+      means-same = refl;
+      means-nothing = refl;
       ones-carriers = refl;
       ones-mode = refl;
       ones-vcm = refl;

@@ -1,16 +1,52 @@
 -- Document 01, "Numbers of refusal": refusal 3, the order front to back, each thing taken whole, and refusal 11, computed. (Every clause of 4 to 10:
 -- SectionRefusals.antt.)
-use Prim.Native.Nat.{ℕ}
+use Prim.Native.Nat.{ℕ, _/_}
 use mathlib.Core.Path.{_≡_, refl}
+use mathlib.Core.Bool.{true, false}
 use mathlib.Core.List.{List, [], _∷_, _++_, map}
-use lib.ListN.{replicate}
-use Rattle.rules.specs.Section.{content, read, checkOf, check}
+use lib.Dec.{leb, eqb}
+use lib.ListN.{length, replicate}
+use Rattle.rules.specs.Bytes.{refused, got, byte}
+use Rattle.rules.specs.Layout.{Block, extent, taken}
+use Rattle.rules.specs.Tables.{cds}
+use Rattle.rules.specs.Form.{Form, noHead}
+use Rattle.rules.specs.Section.{headerOf, content, read, checkOf, check}
+use Rattle.rules.specs.declared.Carriers.{Carriers}
 use Rattle.rules.proofs.Hex.{hex}
 use Rattle.rules.proofs.Computed.{computed}
 
 -- what is answered to a section without its CRC that has passed checks 3 to 6
 abbrev pub body : List ℕ → ℕ
 body bs = checkOf (read (content bs))
+
+-- as a text behind its length: one byte, and as many more as it says; the top bit of the last one is a zero bit. It says how many bytes it has
+abbrev pub texted : Block ℕ
+texted = record { size = 1; more = byte 0; zeros = λ r. eqb (byte (byte 0 r) r / 128) 0; look = length }
+
+-- a table whose header ends in such a text
+abbrev pub textedForm : Form
+textedForm =
+    record {
+      number = 0xC2;
+      medium = 6;
+      subtype = 1;
+      header =
+          record {
+            size = 1;
+            more = byte 0;
+            zeros = λ r. eqb (byte (byte 0 r) r / 128) 0;
+            look = λ r. record { map = 0; first = length r; count = 0; included = 0; splice = 0; time = 0 };
+          };
+      limits = λ x. true;
+      mapped = false;
+      Head = Unit {0};
+      head = noHead;
+      joined = λ x h. x;
+      Row = Carriers;
+      layout = λ x. cds;
+      says = λ rs. record { carriers = rs; modes = []; channels = []; ranges = [] };
+      rowsIn = λ p. p .carriers;
+    }
 
 pub record SectionOrder : Type 0 where
   -- ---- refusal 3, before 4: a table number of 0xC3 would be 4
@@ -63,6 +99,13 @@ pub record SectionOrder : Type 0 where
   pub order-ranges :
       map (λ r. body (hex "C4 30 00 00 01 00 00" ++ r)) (hex "F0 00" ∷ hex "F0 00 81" ∷ hex "00 00 01" ∷ hex "00 00 01 00" ∷ [])
       ≡ 8 ∷ 9 ∷ 8 ∷ 10 ∷ []
+  -- what has as many more bytes as its first ones say is taken whole too, also a header that ends so: here 3 bytes at most
+  pub order-more :
+      map (taken texted (λ n. leb n 3))
+      ([] ∷ hex "02 00" ∷ hex "02 00 FF" ∷ hex "02 FF 7F" ∷ hex "02 FF 00 FF" ∷ hex "03 00 00 7F" ∷ hex "03 00 00 FF" ∷ hex "00 FF" ∷ [])
+      ≡ refused 8 ∷ refused 8 ∷ refused 9 ∷ got 3 [] ∷ got 3 (hex "FF") ∷ refused 10 ∷ refused 9 ∷ got 1 (hex "FF") ∷ []
+  pub header-more :
+      map (extent (headerOf textedForm)) (hex "C2 30 07 02 05" ∷ hex "C2 30 00 01 02 03" ∷ []) ≡ 6 ∷ 5 ∷ []
   -- a descriptor count that isn't there; fewer descriptors than it says; one that ends at the CRC, and one that runs into it by a byte
   pub order-lists :
       map (λ r. body (hex "C2 30 00 00 01 01 01 01 00 00 15 18" ++ r))
@@ -118,6 +161,8 @@ section-order =
       order-modes = refl;
       order-channels = refl;
       order-ranges = refl;
+      order-more = refl;
+      header-more = refl;
       order-lists = refl;
       order-count = refl;
       order-included = refl;
