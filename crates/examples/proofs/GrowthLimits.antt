@@ -10,25 +10,21 @@ use Rattle.rules.specs.Descriptors.{Descriptor}
 use Rattle.rules.specs.Section.{Content, wrong, right}
 use Rattle.rules.specs.Form.{form}
 use Rattle.rules.specs.Parts.{Piece, Shaped, Fair}
-use Rattle.rules.specs.Growth.{empty, kept, added, SameTag, GrownRevision, stays, other, revised, GrownClosing, FullerPieces, end, GrownParts, Grown, Untouched, OtherProtocol}
+use Rattle.rules.specs.Growth.{empty, kept, added, SameTag, GrownRevision, stays, other, GrownClosing, FullerPieces, end, GrownParts, Grown, Untouched, OtherProtocol}
 use Rattle.rules.specs.declared.Table.the-variants.{Cds, Vcm, Dcm}
 use Rattle.rules.proofs.Hex.{hex}
 use Rattle.rules.proofs.Truths.{differ, unlike, not-most}
 use Rattle.rules.proofs.Computed.{computed}
 use Rattle.examples.proofs.Plants.{d, p, carriersPlain, parts, record1, channel1, twoRecords}
 
-pub revision-kept : GrownRevision (d 0x93 "E5 00 00") (d 0x93 "05 00 00 AA")
-unfolding computed
-revision-kept = record { was = refl; is = refl; same = record { long = omega arith; longer = omega arith; version = refl; number = refl; last = refl } }
-
--- a closing list grown: 0x82 stays, the revision is kept, 0x80 gets another body, 0x81 and 0x83 are added
+-- a closing list grown: 0x82 and the revision stay, 0x80 gets another body, 0x81 and 0x83 are added
 abbrev pub grownList :
     GrownClosing
     (d 0x82 "" ∷ d 0x93 "E5 00 00" ∷ d 0x80 "01" ∷ [])
-    (d 0x82 "" ∷ d 0x93 "05 00 00 AA" ∷ d 0x80 "02" ∷ d 0x81 "" ∷ d 0x83 "" ∷ [])
+    (d 0x82 "" ∷ d 0x93 "E5 00 00" ∷ d 0x80 "02" ∷ d 0x81 "" ∷ d 0x83 "" ∷ [])
 grownList =
     kept (stays refl)
-    (kept {d = d 0x93 "E5 00 00"} {e = d 0x93 "05 00 00 AA"} (revised revision-kept)
+    (kept (stays refl)
     (kept {d = d 0x80 "01"} {e = d 0x80 "02"} (other (λ e. omega (arith, e)) refl)
     (added (d 0x81 "") (λ e. omega (arith, e))
     (added (d 0x83 "") (λ e. omega (arith, e)) empty))))

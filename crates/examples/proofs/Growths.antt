@@ -300,18 +300,12 @@ pub parts-fair : Fair (form Cds) (twoRecords 0xFD)
 unfolding computed
 parts-fair = (refl, refl, (refl, refl, tt))
 
--- what the descriptor question tells, of a section; and the tags that growth left alone
+-- what the descriptor question tells, of a section
 pub tells :
     map (told (hex "AA BB CC DD")) (Asked.Refused 5 ∷ Asked.Absent ∷ Asked.There 1 2 ∷ [])
     ≡ Told.refused 5 ∷ Told.none ∷ Told.body (hex "BB CC") ∷ []
 unfolding computed told
 tells = refl
-
-pub untouched : Untouched 0x82 grownList × Untouched 0x93 grownList
-untouched = (
-  (λ e. unlike refl e, (λ e. unlike refl e, (λ e. unlike refl e, tt))),
-  (λ e. unlike refl e, (λ e. unlike refl e, (λ e. unlike refl e, tt))),
-)
 
 -- a section of another protocol version
 pub other-protocol : OtherProtocol (hex "C2 30 0D 01 01 00 01 93 03 E5 00 00 56 DF 59 44")
@@ -323,6 +317,17 @@ other-protocol = record { three = refl; four = refl; five = refl; six = λ e. un
 pub revision-grows : GrownRevision (d 0x93 "E5 01 03") (d 0x93 "05 01 03 AA")
 unfolding computed
 revision-grows = record { was = refl; is = refl; same = record { long = omega arith; longer = omega arith; version = refl; number = refl; last = refl } }
+
+-- the tags that growth left alone; a grown revision descriptor is none that it changed
+pub untouched : Untouched 0x82 grownList × Untouched 0x93 grownList
+untouched = (
+  (λ e. unlike refl e, (λ e. unlike refl e, (λ e. unlike refl e, tt))),
+  (λ e. unlike refl e, (λ e. unlike refl e, (λ e. unlike refl e, tt))),
+)
+
+pub untouched-revised :
+    Untouched 0x93 (kept {d = d 0x93 "E5 01 03"} {e = d 0x93 "05 01 03 AA"} (revised revision-grows) grownList)
+untouched-revised = (λ e. unlike refl e, (λ e. unlike refl e, (λ e. unlike refl e, tt)))
 
 -- a revision descriptor that gets no byte more; a record whose first index is not the count
 pub revision-stays : GrownRevision (d 0x93 "E5 01 03") (d 0x93 "05 01 03")
