@@ -1,1 +1,3 @@
+pub mod Head
+pub mod Onward
 pub mod Determined

@@ -6,20 +6,23 @@ ghost use lib.ListN.{length};
 ghost use Rattle.rules.specs.Bytes.{from};
 ghost use Rattle.rules.specs.Layout.{entry, records};
 ghost use Rattle.rules.specs.Tables.{dcmHeadZeros, dcmHeadOf, rangeOf, rangeFair, dcm};
-ghost use Rattle.fields.specs.Place.{Stands, Skims};
+ghost use Rattle.rules.specs.declared.Table.the-variants as table;
+ghost use Rattle.fields.specs.Place.{Stands, Reaches};
+ghost use Rattle.fields.specs.Outline.{outlineOf};
 ghost use Rattle.fields.specs.declared.Skip.the-variants as skip;
-use fields::Reached;
+use fields::Outline;
+use fields::Outlined;
 use fields::Skip;
 use rules::DcmHead;
 use rules::Range;
 
 // Bytes of the head, and of a range.
-pub const HEAD: usize = 3;
+const HEAD: usize = 3;
 
 pub const SIZE: usize = 1;
 
 // The zero bits of the head are 0: else 9.
-pub fn head_zeros(r: &[u8]) -> bool
+fn head_zeros(r: &[u8]) -> bool
     ensures { λ x. ⌜ x ≡ dcmHeadZeros (now (r .entry)) ⌝ }
 {
     let first = fields::byte(r, 0);
@@ -31,7 +34,7 @@ pub fn head_zeros(r: &[u8]) -> bool
 }
 
 // What the head with these bytes says.
-pub fn head_of(r: &[u8]) -> DcmHead
+fn head_of(r: &[u8]) -> DcmHead
     ensures { λ x. ⌜ x ≡ dcmHeadOf (now (r .entry)) ⌝ }
 {
     let first = fields::byte(r, 0);
@@ -41,6 +44,27 @@ pub fn head_of(r: &[u8]) -> DcmHead
         first: (first % 16) as u16 * 256 + first_low as u16,
         count: length % 128,
     }
+}
+
+// Where the range bytes of a section stand, and from which channel: behind the head; or 8, 9.
+pub fn outline(b: &[u8]) -> Outlined
+    ensures { λ r. ⌜ r ≡ outlineOf table.Dcm (now (b .entry)) ⌝ }
+{
+    if fields::short(b, fields::HEADER, HEAD) {
+        return Outlined::Refused(8);
+    }
+    let r = fields::part(b, fields::HEADER, HEAD);
+    if head_zeros(r) {
+        let h = head_of(r);
+        return Outlined::Records(Outline {
+            at: fields::HEADER + HEAD,
+            map: fields::word(b, 5),
+            first: h.first,
+            count: h.count,
+            included: 0,
+        });
+    }
+    Outlined::Refused(9)
 }
 
 // What the range byte says.
@@ -90,13 +114,13 @@ fn is_plain(b: &[u8], at: usize, first: u32) -> bool
 }
 
 // Over the records that are right, as far as they go: the short way for what a plant mostly sends.
-fn skim(b: &[u8], start: usize, first: u16, count: u8) -> Reached
-    requires { ⌜ start ≤ length (now b) ⌝ }
-    ensures { λ r. ⌜ Skims dcm count first (now (b .entry)) start r ⌝ }
+fn skim(b: &[u8], o: Outline) -> Outline
+    requires { ⌜ o .at ≤ length (now b) ⌝ }
+    ensures { λ r. ⌜ Reaches dcm (now (b .entry)) (o .at) (o .first) (o .count) (r .at) (r .first) (r .count) ⌝ }
 {
-    let mut at = start;
-    let mut index = first as u32;
-    let mut left = count;
+    let mut at = o.at;
+    let mut index = o.first as u32;
+    let mut left = o.count;
     while 0 < left {
         if !is_plain(b, at, index) {
             break;
@@ -105,23 +129,24 @@ fn skim(b: &[u8], start: usize, first: u16, count: u8) -> Reached
         at = at + SIZE;
         left -= 1;
     }
-    Reached {
+    Outline {
         at,
-        index: index as u16,
-        left,
+        map: o.map,
+        first: index as u16,
+        count: left,
+        included: o.included,
     }
 }
 
-// The place behind so many range bytes, the first of them at a place and with its first channel; or 8, 10. The short way first, and
-// from where that stops byte by byte.
-pub fn past_ranges(b: &[u8], start: usize, first: u16, count: u8) -> Skip
-    requires { ⌜ start ≤ length (now b) ⌝ }
-    ensures { λ r. ⌜ Stands (now (b .entry)) r (records dcm count first (from (now (b .entry)) start)) ⌝ }
+// The place behind the range bytes of an outline; or 8, 10. The short way first, and from where that stops byte by byte.
+pub fn past_ranges(b: &[u8], o: Outline) -> Skip
+    requires { ⌜ o .at ≤ length (now b) ⌝ }
+    ensures { λ r. ⌜ Stands (now (b .entry)) r (records dcm (o .count) (o .first) (from (now (b .entry)) (o .at))) ⌝ }
 {
-    let reached = skim(b, start, first, count);
+    let reached = skim(b, o);
     let mut at = reached.at;
-    let mut index = reached.index;
-    let mut left = reached.left;
+    let mut index = reached.first;
+    let mut left = reached.count;
     while 0 < left {
         let next = range_step(b, at, index);
         match next {

@@ -163,16 +163,16 @@ pub record SectionFields : Type 0 where
   pub head-refused : readAs (hex "C2 30 0F") (wrong 3) ≡ Read.Refused 3
   pub head-carriers :
       readAs plantCds (behind plantCds)
-      ≡ Read.Right (record { table = Cds; map = 0; revision = revision5; records = 7; count = 2; closing = 19 })
+      ≡ Read.Right (record { table = Cds; map = 0; revision = revision5; closing = 19 })
   pub head-modes :
       readAs plantMms (behind plantMms)
-      ≡ Read.Right (record { table = Mms; map = 0; revision = revision5; records = 7; count = 2; closing = 21 })
+      ≡ Read.Right (record { table = Mms; map = 0; revision = revision5; closing = 21 })
   pub head-channels :
       readAs plantVcm (behind plantVcm)
-      ≡ Read.Right (record { table = Vcm; map = 0x0102; revision = revision5; records = 14; count = 3; closing = 46 })
+      ≡ Read.Right (record { table = Vcm; map = 0x0102; revision = revision5; closing = 46 })
   pub head-ranges :
       readAs plantDcm (behind plantDcm)
-      ≡ Read.Right (record { table = Dcm; map = 0x0102; revision = revision5; records = 10; count = 3; closing = 13 })
+      ≡ Read.Right (record { table = Dcm; map = 0x0102; revision = revision5; closing = 13 })
   -- ---- the descriptor question: the body of the first of a tag, behind others, as a part of the section
   pub asked :
       map (λ tag. askedOf tag askedSection (behind askedSection)) (0x93 ∷ 0x80 ∷ 0x81 ∷ 0x82 ∷ [])

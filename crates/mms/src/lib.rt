@@ -6,14 +6,24 @@ ghost use lib.ListN.{length};
 ghost use Rattle.rules.specs.Bytes.{from};
 ghost use Rattle.rules.specs.Layout.{entry, records};
 ghost use Rattle.rules.specs.Tables.{modeZeros, modeOf, among, systems, innerCodings, assigned, modeFair, mms};
-ghost use Rattle.fields.specs.Place.{Stands, Skims};
+ghost use Rattle.rules.specs.declared.Table.the-variants as table;
+ghost use Rattle.fields.specs.Place.{Stands, Reaches};
+ghost use Rattle.fields.specs.Outline.{outlineOf};
 ghost use Rattle.fields.specs.declared.Skip.the-variants as skip;
-use fields::Reached;
+use fields::Outline;
+use fields::Outlined;
 use fields::Skip;
 use rules::Mode;
 
 // Bytes of a record.
 pub const SIZE: usize = 6;
+
+// Where the records of a section stand, and from which index: right behind the header, which has the first index and the count.
+pub fn outline(b: &[u8]) -> Outlined
+    ensures { λ r. ⌜ r ≡ outlineOf table.Mms (now (b .entry)) ⌝ }
+{
+    fields::counted_outline(b)
+}
 
 // Its zero bits are 0: else 9.
 fn mode_zeros(r: &[u8]) -> bool
@@ -136,13 +146,13 @@ fn is_plain(b: &[u8], at: usize, index: u32) -> bool
 }
 
 // Over the records that are right and have no descriptors, as far as they go: the short way for what a plant mostly sends.
-fn skim(b: &[u8], start: usize, first: u16, count: u8) -> Reached
-    requires { ⌜ start ≤ length (now b) ⌝ }
-    ensures { λ r. ⌜ Skims mms count first (now (b .entry)) start r ⌝ }
+fn skim(b: &[u8], o: Outline) -> Outline
+    requires { ⌜ o .at ≤ length (now b) ⌝ }
+    ensures { λ r. ⌜ Reaches mms (now (b .entry)) (o .at) (o .first) (o .count) (r .at) (r .first) (r .count) ⌝ }
 {
-    let mut at = start;
-    let mut index = first as u32;
-    let mut left = count;
+    let mut at = o.at;
+    let mut index = o.first as u32;
+    let mut left = o.count;
     while 0 < left {
         if !is_plain(b, at, index) {
             break;
@@ -151,23 +161,24 @@ fn skim(b: &[u8], start: usize, first: u16, count: u8) -> Reached
         at = at + SIZE + 1;
         left -= 1;
     }
-    Reached {
+    Outline {
         at,
-        index: index as u16,
-        left,
+        map: o.map,
+        first: index as u16,
+        count: left,
+        included: o.included,
     }
 }
 
-// The place behind so many records, the first of them at a place and an index; or 8, 9, 10. The short way first, and from where that stops
-// record by record.
-pub fn past_modes(b: &[u8], start: usize, first: u16, count: u8) -> Skip
-    requires { ⌜ start ≤ length (now b) ⌝ }
-    ensures { λ r. ⌜ Stands (now (b .entry)) r (records mms count first (from (now (b .entry)) start)) ⌝ }
+// The place behind the records of an outline; or 8, 9, 10. The short way first, and from where that stops record by record.
+pub fn past_modes(b: &[u8], o: Outline) -> Skip
+    requires { ⌜ o .at ≤ length (now b) ⌝ }
+    ensures { λ r. ⌜ Stands (now (b .entry)) r (records mms (o .count) (o .first) (from (now (b .entry)) (o .at))) ⌝ }
 {
-    let reached = skim(b, start, first, count);
+    let reached = skim(b, o);
     let mut at = reached.at;
-    let mut index = reached.index;
-    let mut left = reached.left;
+    let mut index = reached.first;
+    let mut left = reached.count;
     while 0 < left {
         let next = mode_step(b, at, index);
         match next {

@@ -32,8 +32,7 @@ refusedBy number = record { refusal = number; word = "refusal"; values = [] }
 unfoldable pub says : String → List ℕ → Said
 says word values = record { refusal = 0; word = word; values = values }
 
--- ---- a section reads right, "as that table, map, version, number and last"; and, ours, where its records begin, how many there are, and
--- where its closing list begins
+-- ---- a section reads right, "as that table, map, version, number and last"; and, ours, where its closing list begins
 
 unfoldable pub headValues : SectionHead → List ℕ
 headValues h =
@@ -42,8 +41,6 @@ headValues h =
     ∷ h .revision .version
     ∷ h .revision .number
     ∷ h .revision .last
-    ∷ h .records
-    ∷ h .count
     ∷ h .closing
     ∷ []
 

@@ -78,13 +78,11 @@ pub struct Revision {
 }
 
 // What a section that reads right is, for one who holds its bytes: its table and map number (0 where the table has none), its
-// revision, the place where its records begin and how many there are, and the place where its closing list begins.
+// revision, and the place where its closing list begins.
 pub struct SectionHead {
     pub table: Table,
     pub map: u16,
     pub revision: Revision,
-    pub records: usize,
-    pub count: u8,
     pub closing: usize,
 }
 

@@ -1,5 +1,4 @@
 pub mod Lists
 pub mod Headers
-pub mod Walks
 pub mod Whole
 pub mod Determined

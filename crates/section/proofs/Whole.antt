@@ -1,57 +1,61 @@
 -- From the stages of the reader to the whole section.
-use Prim.Native.Nat.{ℕ, _≤_, _<_, _%_}
+use Prim.Native.Nat.{ℕ, _≤_, _<_, _%_, _-_}
 use native.Mathlib.Omega.{arith}
-use mathlib.Core.Path.{_≡_, refl, sym, ap, _∙_}
-use mathlib.Core.Bool.{true, false}
+use mathlib.Core.Path.{_≡_, refl, sym, ap, ap₂, subst, _∙_}
+use mathlib.Core.Bool.{Bool, true, false}
 use mathlib.Core.List.{List}
 use mathlib.Core.Option.{Option, none, some}
-use lib.ListN.{length}
+use lib.ListN.{length, take}
+use lib.Dec.{leb, ltb}
 use borrow.Author.Tests.{eq-eqb, ne-eqb, lt-ltb, le-ltb}
 use Rattle.rules.specs.Bytes.{Got, refused, got, unless, andThen, giving, byte, from}
 use Rattle.rules.specs.Crc.{crcOf}
 use Rattle.rules.specs.Descriptors.{Descriptor, closing, bodies}
+use Rattle.rules.specs.Layout.{Block, extent, taken, Numbered, records}
 use Rattle.rules.specs.Form.{Front, form}
-use Rattle.rules.specs.Section.{isNumber, mediumAt, named, Headed, headerBy, header, Structure, structure, revisionTag, revision, Content, contentOf, content, fitting, withoutCrc, whole, Reading, wrong, right, read, readSection, recordsAt, closingAt, headOf, readAs, firstOf, askedOf, ask, given}
+use Rattle.rules.specs.Section.{isNumber, mediumAt, named, given, headerOf, Headed, headerBy, header, inFront, Structure, structure, revisionTag, revision, Content, contentOf, content, fitting, withoutCrc, whole, Reading, wrong, right, read, readSection, sizeOf, closingAt, headOf, readAs, firstOf, askedOf, ask}
 use Rattle.rules.specs.declared.Table.{Table}
 use Rattle.rules.specs.declared.Revision.{Revision}
 use Rattle.rules.specs.declared.SectionHead.{SectionHead}
 use Rattle.rules.specs.declared.Read.the-variants as reads
 use Rattle.rules.specs.declared.Asked.the-variants as asked
-use Rattle.rules.proofs.Taken.{then-got, taken-got}
+use Rattle.rules.proofs.Taken.{unless-got, given-got, giving-got, then-got, taken-got}
 use Rattle.rules.proofs.Closing.{closing-size}
 use Rattle.rules.proofs.Places.{from-length}
-use Rattle.rules.proofs.Right.{header-got, reads-right, closing-place}
+use Rattle.rules.proofs.Right.{reads-right, closing-place}
+use Rattle.fields.specs.Outline.{headerSays, behindHeader, layoutOf, fronted}
+use Rattle.fields.specs.declared.Outline.{Outline}
+use Rattle.fields.proofs.Outlines.{laid, Area}
 use Rattle.section.specs.Closes.{closedAs, closedOf, filled, firstIn}
-use Rattle.section.specs.Reads.{namedAs, headerAs, headedAs, behindHeader, answeredAs}
-use Rattle.section.specs.declared.header.Named.the-variants as named
+use Rattle.section.specs.Reads.{namedAs, headerAs, headedBy, headed, behind, answeredAs}
+use Rattle.section.specs.declared.header.Named.the-variants as names
 use Rattle.section.specs.declared.header.Header.the-variants as header
 use Rattle.section.specs.declared.closing.Closed.the-variants as closed
-use Rattle.section.proofs.Headers.{seven}
 
 -- ---- the header
 
 module _ (bs : List ℕ) where
-  pub header-cut : length bs ≤ mediumAt (byte 0 bs) → header bs ≡ refused 8
-  unfolding header unless
+  pub header-cut : length bs ≤ mediumAt (byte 0 bs) → headed bs ≡ refused 8
+  unfolding headed unless
   header-cut h = rw (le-ltb _ _ h)
 
-  name-of : (o : Option Table) (t : Table) → named.Table t ≡ namedAs o → o ≡ some t
+  name-of : (o : Option Table) (t : Table) → names.Table t ≡ namedAs o → o ≡ some t
   unfolding namedAs
   name-of none t e = let z : _≡_ {A = ℕ} 0 1 = cc in absurd (omega arith)
   name-of (some u) t e = cc
 
-  no-name : (o : Option Table) → named.Nothing ≡ namedAs o → o ≡ none
+  no-name : (o : Option Table) → names.Nothing ≡ namedAs o → o ≡ none
   unfolding namedAs
   no-name none e = refl
   no-name (some u) e = let z : _≡_ {A = ℕ} 0 1 = cc in absurd (omega arith)
 
   module _ (h : mediumAt (byte 0 bs) < length bs) where
-    pub header-unnamed : named.Nothing ≡ namedAs (named (byte 0 bs) (byte (mediumAt (byte 0 bs)) bs)) → header bs ≡ refused 7
-    unfolding header unless given
+    pub header-unnamed : names.Nothing ≡ namedAs (named (byte 0 bs) (byte (mediumAt (byte 0 bs)) bs)) → headed bs ≡ refused 7
+    unfolding headed unless given
     header-unnamed e = rw (lt-ltb _ _ h, no-name _ e)
 
-    pub header-named : (t : Table) → named.Table t ≡ namedAs (named (byte 0 bs) (byte (mediumAt (byte 0 bs)) bs)) → header bs ≡ headerBy t bs
-    unfolding header unless given
+    pub header-named : (t : Table) → names.Table t ≡ namedAs (named (byte 0 bs) (byte (mediumAt (byte 0 bs)) bs)) → headed bs ≡ headedBy t bs
+    unfolding headed unless given
     header-named t e = rw (lt-ltb _ _ h, name-of _ t e)
 
 -- the cases of the header's answer
@@ -72,15 +76,44 @@ module _ (g : Got Headed) where
       go (refused m) q = cc
       go (got u rest) q = let z : _≡_ {A = ℕ} 0 1 = cc in absurd (omega arith)
 
--- a header that names a table is whole, says what its bytes say, and leaves those behind them
-pub header-is : (b : List ℕ) (t : Table) → header.Names t ≡ headerAs (header b) → (header b ≡ got (headedAs t b) (behindHeader t b)) × (7 ≤ length b)
-header-is b t e =
-    let g = header-names (header b) t e in
-    let k = taken-got _ _ b (g .0 .front) (g .1) (header-got b (g .0) (g .1) (g .3) .block) in
-    let is : g .0 ≡ headedAs (g .0 .table) b = ap (λ (x : Front). record { table = g .0 .table; front = x }) (k .is) in (
-      g .3 ∙ ap (λ (rest : List ℕ). got (g .0) rest) (k .behind) ∙ ap (λ (h : Headed). got h (behindHeader (g .0 .table) b)) is ∙ ap (λ (u : Table). got (headedAs u b) (behindHeader u b)) (g .2),
-      omega (arith, k .fits, seven (g .0 .table) b),
-    )
+-- a header that is taken but for its limits is taken where they hold
+limits-last : {R : Type 0} (k : Block R) (limits : R → Bool) (bs : List ℕ) → taken k limits bs ≡ andThen (taken k (λ x. true) bs) (λ x rest. unless (limits x) 10 (got x rest))
+unfolding taken unless andThen
+limits-last {R} k limits bs = go (leb (extent k bs) (length bs)) (k .zeros (take (extent k bs) bs)) (k .look (take (extent k bs) bs))
+  where
+    go : (a z : Bool) (x : R) → unless a 8 (unless z 9 (unless (limits x) 10 (got x (from bs (extent k bs))))) ≡ andThen (unless a 8 (unless z 9 (unless true 10 (got x (from bs (extent k bs)))))) (λ x rest. unless (limits x) 10 (got x rest))
+    go false z x = refl
+    go true false x = refl
+    go true true x = refl
+
+-- so the content is what comes behind it
+abbrev judged : Headed → List ℕ → Got Content
+judged h rest = unless (form (h .table) .limits (h .front)) 10 (contentOf h rest)
+
+content-by : (b : List ℕ) → content b ≡ andThen (headed b) judged
+unfolding content header headerBy headed headedBy given andThen giving unless
+content-by b = go (ltb (mediumAt (byte 0 b)) (length b)) (named (byte 0 b) (byte (mediumAt (byte 0 b)) b))
+  where
+    limited : (h : Headed) (rest : List ℕ) (l : Bool) → andThen (giving (λ x. record { table = h .table; front = x }) (unless l 10 (got (h .front) rest))) contentOf ≡ unless l 10 (contentOf h rest)
+    limited h rest true = refl
+    limited h rest false = refl
+
+    headers : (t : Table) (g : Got Front) → andThen (giving (λ x. record { table = t; front = x }) (andThen g (λ x rest. unless (form t .limits x) 10 (got x rest)))) contentOf
+        ≡ andThen (giving (λ x. record { table = t; front = x }) g) judged
+    headers t (refused n) = refl
+    headers t (got x rest) = limited (record { table = t; front = x }) rest (form t .limits x)
+
+    go : (m : Bool) (o : Option Table) → andThen (unless m 8 (given o 7 (λ t. headerBy t b))) contentOf ≡ andThen (unless m 8 (given o 7 (λ t. headedBy t b))) judged
+    go false o = refl
+    go true none = refl
+    go true (some t) = rw (limits-last (headerOf (form t)) (form t .limits) b) (headers t (taken (headerOf (form t)) (λ x. true) b))
+
+headed-got : (b : List ℕ) (h : Headed) (rest : List ℕ) → headed b ≡ got h rest → taken (headerOf (form (h .table))) (λ x. true) b ≡ got (h .front) rest
+unfolding headed headedBy
+headed-got b h rest e =
+    let g = given-got _ _ _ _ _ (unless-got _ _ _ _ _ e .1) in
+    let w = giving-got _ _ _ _ (g .1) in
+    subst (λ (x : Headed). taken (headerOf (form (x .table))) (λ y. true) b ≡ got (x .front) rest) (sym (w .2)) (w .1)
 
 -- ---- the content
 
@@ -88,13 +121,21 @@ pub shown-no : (b : List ℕ) (n : ℕ) (g : Got Content) → g ≡ refused n �
 unfolding answeredAs
 shown-no b n g e = sym (ap (answeredAs b) e)
 
-pub content-unheaded : (b : List ℕ) (n : ℕ) → header b ≡ refused n → content b ≡ refused n
-unfolding content andThen
-content-unheaded b n e = rw e
+pub content-unheaded : (b : List ℕ) (n : ℕ) → header.Refused n ≡ headerAs (headed b) → content b ≡ refused n
+unfolding andThen
+content-unheaded b n e = content-by b ∙ rw (header-no (headed b) n e)
 
-pub content-headed : (b : List ℕ) (h : Headed) (rest : List ℕ) → header b ≡ got h rest → content b ≡ contentOf h rest
-unfolding content andThen
-content-headed b h rest e = rw e
+-- a header that names a table is whole, says what its bytes say, and leaves those behind them
+pub content-headed : (b : List ℕ) (t : Table) → header.Names t ≡ headerAs (headed b) → (content b ≡ behind t b) × (7 ≤ length b)
+unfolding andThen behind
+content-headed b t e =
+    let g = header-names (headed b) t e in
+    let u = g .0 .table in
+    let k = taken-got _ _ b (g .0 .front) (g .1) (headed-got b (g .0) (g .1) (g .3)) in
+    let is : g .0 ≡ record { table = u; front = headerSays u b } = ap (λ (x : Front). record { table = u; front = x }) (k .is) in (
+      content-by b ∙ ap (λ (x : Got Headed). andThen x judged) (g .3) ∙ ap₂ judged is (k .behind) ∙ ap (λ (v : Table). behind v b) (g .2),
+      omega (arith, k .fits, laid u .seven b),
+    )
 
 abbrev made : Table → Structure → List Descriptor → Revision → Content
 made t x ds r = record { table = t; structure = x; closing = ds; revision = r }
@@ -104,47 +145,78 @@ unfolding closedAs
 closed-got (refused n) r q = let z : _≡_ {A = ℕ} 0 1 = cc in absurd (omega arith)
 closed-got (got s rest) r q = (rest, cc)
 
+-- behind what stands in front of the records: the records, and the closing list
 module _ (t : Table) (b : List ℕ) where
-  abbrev contentIn : Got Content
-  contentIn = contentOf (headedAs t b) (behindHeader t b)
+  abbrev ending : Structure → List ℕ → Got Content
+  ending x tail = andThen (closing tail) (λ ds end. giving (made t x ds) (revision (bodies revisionTag ds)))
 
-  pub content-no : (n : ℕ) → structure (form t) (headedAs t b .front) (behindHeader t b) ≡ refused n → contentIn ≡ refused n
-  unfolding contentOf andThen
-  content-no n e = rw e
+  abbrev built : Front → List (Numbered (form t .Row)) → Structure
+  built y rs = record { front = y; lists = form t .says rs }
 
-  module _ (x : Structure) (at : ℕ) (e : structure (form t) (headedAs t b .front) (behindHeader t b) ≡ got x (from b at)) where
-    pub content-unclosed : (n : ℕ) → closed.Refused n ≡ closedAs (closedOf (from b at)) → contentIn ≡ refused n
-    unfolding contentOf andThen closedOf closedAs giving
-    content-unclosed n q = rw e (go (closing (from b at)) q)
-      where
-        judge : (ds : List Descriptor) (g : Got Revision) → closed.Refused n ≡ closedAs g → giving (λ r. made t x ds r) g ≡ refused n
-        judge ds (refused m) p = cc
-        judge ds (got r rest) p = let z : _≡_ {A = ℕ} 0 1 = cc in absurd (omega arith)
+  behind-by : behind t b ≡ andThen (fronted t b) (λ y rest. andThen (records (form t .layout y) (y .count) (y .first) rest) (λ rs tail. ending (built y rs) tail))
+  unfolding behind contentOf structure fronted andThen giving unless
+  behind-by = go (form t .limits (headerSays t b)) (inFront (form t) (headerSays t b) (behindHeader t b))
+    where
+      rows : (y : Front) (g : Got (List (Numbered (form t .Row)))) → andThen (giving (built y) g) ending ≡ andThen g (λ rs tail. ending (built y rs) tail)
+      rows y (refused n) = refl
+      rows y (got rs tail) = refl
 
-        go : (g : Got (List Descriptor)) → closed.Refused n ≡ closedAs (andThen g (λ ds end. revision (bodies revisionTag ds))) → andThen g (λ ds end. giving (λ r. made t x ds r) (revision (bodies revisionTag ds))) ≡ refused n
-        go (refused m) p = cc
-        go (got ds end) p = judge ds (revision (bodies revisionTag ds)) p
+      fronts : (g : Got Front) → andThen (andThen g (λ y rest. giving (built y) (records (form t .layout y) (y .count) (y .first) rest))) ending
+          ≡ andThen g (λ y rest. andThen (records (form t .layout y) (y .count) (y .first) rest) (λ rs tail. ending (built y rs) tail))
+      fronts (refused n) = refl
+      fronts (got y rest) = rows y (records (form t .layout y) (y .count) (y .first) rest)
 
-    content-is : (ds : List Descriptor) (end : List ℕ) (r : Revision) (rest : List ℕ) → closing (from b at) ≡ got ds end → revision (bodies revisionTag ds) ≡ got r rest → contentIn ≡ got (made t x ds r) rest
-    unfolding contentOf andThen giving
-    content-is ds end r rest c v = rw (e, c, v)
+      go : (l : Bool) (g : Got Front) → unless l 10 (andThen (andThen g (λ y rest. giving (built y) (records (form t .layout y) (y .count) (y .first) rest))) ending)
+          ≡ andThen (unless l 10 g) (λ y rest. andThen (records (form t .layout y) (y .count) (y .first) rest) (λ rs tail. ending (built y rs) tail))
+      go true g = fronts g
+      go false g = refl
 
-    -- the closing list has the bytes from its place on
-    place-of : at ≤ length b → (ds : List Descriptor) (end : List ℕ) → closing (from b at) ≡ got ds end → closingAt b ds ≡ at
-    unfolding closingAt
-    place-of h ds end c = omega (arith, closing-size (from b at) ds end c, from-length b at)
+  pub unfronted : (n : ℕ) → fronted t b ≡ refused n → behind t b ≡ refused n
+  unfolding andThen
+  unfronted n e = behind-by ∙ rw e
 
-    list-got : (r : Revision) → closed.Revised r ≡ closedAs (closedOf (from b at)) → (ds : List Descriptor) × (end : List ℕ) × (rest : List ℕ) × (closing (from b at) ≡ got ds end) × (revision (bodies revisionTag ds) ≡ got r rest)
-    unfolding closedOf
-    list-got r q = let c = closed-got _ r q in let d = then-got _ _ _ _ (c .1) in (d .value, d .behind, c .0, d .one, d .more)
+  module _ (o : Outline) (a : Area t b o) where
+    abbrev rows : Got (List (Numbered (form t .Row)))
+    rows = records (layoutOf t (o .included)) (o .count) (o .first) (from b (o .at))
 
-    pub content-so : at ≤ length b → (r : Revision) → closed.Revised r ≡ closedAs (closedOf (from b at)) → (map start count : ℕ) → map ≡ x .front .map → start ≡ recordsAt t b → count ≡ x .front .count
-        → reads.Right (record { table = t; map = map; revision = r; records = start; count = count; closing = at }) ≡ answeredAs b contentIn
-    unfolding answeredAs headOf
-    content-so h r q map start count m a n =
-        let l = list-got r q in
-        let p = place-of h (l .0) (l .1) (l .3) in
-        rw (content-is (l .0) (l .1) r (l .2) (l .3) (l .4), p, m, a, n)
+    behind-rows : behind t b ≡ andThen rows (λ rs tail. ending (built (a .front) rs) tail)
+    unfolding andThen
+    behind-rows = behind-by ∙ rw (a .is, a .walked)
+
+    pub unread : (n : ℕ) → rows ≡ refused n → behind t b ≡ refused n
+    unfolding andThen
+    unread n e = behind-rows ∙ rw e
+
+    module _ (rs : List (Numbered (form t .Row))) (at : ℕ) (e : rows ≡ got rs (from b at)) where
+      behind-ending : behind t b ≡ ending (built (a .front) rs) (from b at)
+      unfolding andThen
+      behind-ending = behind-rows ∙ rw e
+
+      pub unclosed : (n : ℕ) → closed.Refused n ≡ closedAs (closedOf (from b at)) → behind t b ≡ refused n
+      unfolding andThen closedOf closedAs giving
+      unclosed n q = behind-ending ∙ go (closing (from b at)) q
+        where
+          judge : (ds : List Descriptor) (g : Got Revision) → closed.Refused n ≡ closedAs g → giving (made t (built (a .front) rs) ds) g ≡ refused n
+          judge ds (refused m) p = cc
+          judge ds (got r rest) p = let z : _≡_ {A = ℕ} 0 1 = cc in absurd (omega arith)
+
+          go : (g : Got (List Descriptor)) → closed.Refused n ≡ closedAs (andThen g (λ ds end. revision (bodies revisionTag ds)))
+              → andThen g (λ ds end. giving (made t (built (a .front) rs) ds) (revision (bodies revisionTag ds))) ≡ refused n
+          go (refused m) p = cc
+          go (got ds end) p = judge ds (revision (bodies revisionTag ds)) p
+
+      -- the closing list has the bytes from its place on
+      list-got : (r : Revision) → closed.Revised r ≡ closedAs (closedOf (from b at)) → (ds : List Descriptor) × (end : List ℕ) × (rest : List ℕ) × (closing (from b at) ≡ got ds end) × (revision (bodies revisionTag ds) ≡ got r rest)
+      unfolding closedOf
+      list-got r q = let c = closed-got _ r q in let d = then-got _ _ _ _ (c .1) in (d .value, d .behind, c .0, d .one, d .more)
+
+      pub read-right : at ≤ length b → (r : Revision) → closed.Revised r ≡ closedAs (closedOf (from b at))
+          → reads.Right (record { table = t; map = o .map; revision = r; closing = at }) ≡ answeredAs b (behind t b)
+      unfolding answeredAs headOf closingAt andThen giving
+      read-right h r q =
+          let l = list-got r q in
+          let p : length b - sizeOf (l .0) ≡ at = omega (arith, closing-size (from b at) (l .0) (l .1) (l .3), from-length b at) in
+          rw (behind-ending, l .3, l .4, p) (ap (λ (m : ℕ). reads.Right (record { table = t; map = m; revision = r; closing = at })) (a .map))
 
 -- ---- the whole section
 

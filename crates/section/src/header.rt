@@ -1,14 +1,10 @@
-// The header: the table that a section is of, refusal 7, and the header's own 8, 9 and 10. b is a section without its CRC.
+// The header: the table that a section is of, refusal 7, and the header's own 8 and 9; its limits, 10, are judged by the table's room. b is a
+// section without its CRC.
 ghost use mathlib.Core.Path.{_≡_};
 ghost use Rattle.rules.specs.Bytes.{byte};
-ghost use Rattle.rules.specs.Form.{form};
-ghost use Rattle.rules.specs.Section.{mediumAt, named, headerBy};
-ghost use Rattle.rules.specs.Section as rule;
-ghost use Rattle.section.specs.Reads.{namedAs, headerAs, headedAs};
+ghost use Rattle.rules.specs.Section.{mediumAt, named};
+ghost use Rattle.section.specs.Reads.{namedAs, headerAs, headedBy, headed};
 use rules::Table;
-
-// Bytes of the header.
-pub const SIZE: usize = 7;
 
 // The table that a header names, or its refusal.
 pub enum Header {
@@ -46,25 +42,13 @@ fn table_named(number: u8, medium: u8) -> Named
     Named::Nothing
 }
 
-// First index 0 is 10; 0xC4 has no limits in its header.
-fn is_fair(t: Table, b: &[u8]) -> bool
-    ensures { λ r. ⌜ r ≡ form t .limits (headedAs t (now (b .entry)) .front) ⌝ }
-{
-    match t {
-        Table::Cds => 0 < fields::byte(b, 4),
-        Table::Mms => 0 < fields::byte(b, 4),
-        Table::Vcm => true,
-        Table::Dcm => true,
-    }
-}
-
-// The header whole, once its table is known: 8 before 9 before 10.
+// The header whole, once its table is known: 8 before 9.
 fn header_whole(t: Table, b: &[u8]) -> Header
-    ensures { λ r. ⌜ r ≡ headerAs (headerBy t (now (b .entry))) ⌝ }
+    ensures { λ r. ⌜ r ≡ headerAs (headedBy t (now (b .entry))) ⌝ }
 {
     let high = fields::byte(b, 1);
     let protocol = fields::byte(b, 3);
-    if b.len() < SIZE {
+    if b.len() < fields::HEADER {
         return Header::Refused(8);
     }
     if high / 64 != 0 {
@@ -73,10 +57,7 @@ fn header_whole(t: Table, b: &[u8]) -> Header
     if protocol / 32 != 0 {
         return Header::Refused(9);
     }
-    if is_fair(t, b) {
-        return Header::Names(t);
-    }
-    Header::Refused(10)
+    Header::Names(t)
 }
 
 // Where the byte of medium and subtype stands.
@@ -91,7 +72,7 @@ fn medium_at(b: &[u8]) -> usize
 
 // The header of a section without its CRC.
 pub fn header_of(b: &[u8]) -> Header
-    ensures { λ r. ⌜ r ≡ headerAs (rule.header (now (b .entry))) ⌝ }
+    ensures { λ r. ⌜ r ≡ headerAs (headed (now (b .entry))) ⌝ }
 {
     let at = medium_at(b);
     if b.len() <= at {
@@ -101,19 +82,5 @@ pub fn header_of(b: &[u8]) -> Header
     match name {
         Named::Nothing => Header::Refused(7),
         Named::Table(t) => header_whole(t, b),
-    }
-}
-
-// The map number of 0xC4, or 0.
-pub fn map_of(t: Table, b: &[u8]) -> u16
-    ensures { λ r. ⌜ r ≡ headedAs t (now (b .entry)) .front .map ⌝ }
-{
-    let high = fields::byte(b, 5);
-    let low = fields::byte(b, 6);
-    match t {
-        Table::Cds => 0,
-        Table::Mms => 0,
-        Table::Vcm => high as u16 * 256 + low as u16,
-        Table::Dcm => high as u16 * 256 + low as u16,
     }
 }

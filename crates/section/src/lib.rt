@@ -2,20 +2,19 @@
 ghost use mathlib.Core.Path.{_≡_};
 ghost use Prim.Native.Nat.{_≤_};
 ghost use lib.ListN.{length};
-ghost use Rattle.rules.specs.Section.{isNumber, fitting, contentOf, content, readSection, readAs, ask, partOf};
+ghost use Rattle.rules.specs.Section.{isNumber, fitting, content, readSection, readAs, ask, partOf};
 ghost use Rattle.rules.specs.Said.{readSaid, askedSaid, sectionSaid, askSaid};
-ghost use Rattle.section.specs.Reads.{headedAs, behindHeader, answeredAs};
+ghost use Rattle.section.specs.Reads.{behind, answeredAs};
 use closing::Closed;
+use fields::Outlined;
 use fields::Skip;
 use header::Header;
 use rules::Asked;
 use rules::Read;
 use rules::SectionHead;
 use rules::Table;
-use structure::Outline;
 
 mod header; // the table that a section is of
-mod structure; // the records of every table
 mod closing; // the closing list
 
 // At least 8 bytes, exactly 3 + L of them, and L at most 1,021: else 3.
@@ -42,21 +41,16 @@ fn is_table_number(number: u8) -> bool
     number == 0xC4
 }
 
-// Behind the header: the structure, then the closing list.
+// Behind the header's zero bits: what is in front of the records, the records, then the closing list.
 fn structured(t: Table, b: &[u8]) -> Read
     requires { ⌜ 7 ≤ length (now b) ⌝ }
-    ensures { λ r. ⌜ r ≡ answeredAs (now (b .entry)) (contentOf (headedAs t (now (b .entry))) (behindHeader t (now (b .entry)))) ⌝ }
+    ensures { λ r. ⌜ r ≡ answeredAs (now (b .entry)) (behind t (now (b .entry))) ⌝ }
 {
-    let outline = structure::outline_of(t, b);
-    match outline {
-        Outline::Refused(n) => Read::Refused(n),
-        Outline::Records {
-            kind,
-            start,
-            first,
-            count,
-        } => {
-            let end = structure::past_records(kind, b, start, first, count);
+    let outlined = tables::outline_of(t, b);
+    match outlined {
+        Outlined::Refused(n) => Read::Refused(n),
+        Outlined::Records(outline) => {
+            let end = tables::past_records(t, b, outline);
             match end {
                 Skip::Refused(n) => Read::Refused(n),
                 Skip::At(at) => {
@@ -65,10 +59,8 @@ fn structured(t: Table, b: &[u8]) -> Read
                         Closed::Refused(n) => Read::Refused(n),
                         Closed::Revised(revision) => Read::Right(SectionHead {
                             table: t,
-                            map: header::map_of(t, b),
+                            map: outline.map,
                             revision,
-                            records: start,
-                            count,
                             closing: at,
                         }),
                     }

@@ -1,27 +1,30 @@
 // The virtual channel map, VCM: its head, its channel record, and the way over its records. b is a section without its CRC.
 ghost use mathlib.Core.Path.{_≡_};
 ghost use mathlib.Core.Bool.{true, _&&_};
-ghost use Prim.Native.Nat.{_+_, _≤_};
+ghost use Prim.Native.Nat.{ℕ, _+_, _≤_};
 ghost use lib.ListN.{length};
 ghost use Rattle.rules.specs.Bytes.{from};
 ghost use Rattle.rules.specs.Layout.{entry, records};
 ghost use Rattle.rules.specs.Tables.{vcmHeadZeros, vcmHeadOf, channelZeros, signalOf, channelOf, channelFair, vcm};
-ghost use Rattle.fields.specs.Place.{Stands, Skims};
+ghost use Rattle.rules.specs.declared.Table.the-variants as table;
+ghost use Rattle.fields.specs.Place.{Stands, Reaches};
+ghost use Rattle.fields.specs.Outline.{outlineOf};
 ghost use Rattle.vcm.specs.Tail.{tailOf};
 ghost use Rattle.fields.specs.declared.Skip.the-variants as skip;
-use fields::Reached;
+use fields::Outline;
+use fields::Outlined;
 use fields::Skip;
 use rules::Channel;
 use rules::Signal;
 use rules::VcmHead;
 
 // Bytes of the head, and of a record.
-pub const HEAD: usize = 7;
+const HEAD: usize = 7;
 
 pub const SIZE: usize = 9;
 
 // The zero bits of the head are 0: else 9.
-pub fn head_zeros(r: &[u8]) -> bool
+fn head_zeros(r: &[u8]) -> bool
     ensures { λ x. ⌜ x ≡ vcmHeadZeros (now (r .entry)) ⌝ }
 {
     let included = fields::byte(r, 0);
@@ -39,7 +42,7 @@ pub fn head_zeros(r: &[u8]) -> bool
 }
 
 // What the head with these bytes says.
-pub fn head_of(r: &[u8]) -> VcmHead
+fn head_of(r: &[u8]) -> VcmHead
     ensures { λ x. ⌜ x ≡ vcmHeadOf (now (r .entry)) ⌝ }
 {
     let included = fields::byte(r, 0);
@@ -55,6 +58,27 @@ pub fn head_of(r: &[u8]) -> VcmHead
         time: t3 as u32 * 16777216 + t2 as u32 * 65536 + t1 as u32 * 256 + t0 as u32,
         count,
     }
+}
+
+// Where the records of a section stand: behind the head; or 8, 9. A channel record carries its number itself and takes no index.
+pub fn outline(b: &[u8]) -> Outlined
+    ensures { λ r. ⌜ r ≡ outlineOf table.Vcm (now (b .entry)) ⌝ }
+{
+    if fields::short(b, fields::HEADER, HEAD) {
+        return Outlined::Refused(8);
+    }
+    let r = fields::part(b, fields::HEADER, HEAD);
+    if head_zeros(r) {
+        let h = head_of(r);
+        return Outlined::Records(Outline {
+            at: fields::HEADER + HEAD,
+            map: fields::word(b, 5),
+            first: 0,
+            count: h.count,
+            included: h.included,
+        });
+    }
+    Outlined::Refused(9)
 }
 
 // The zero bits of a record are 0, those of its signal for transport 1: else 9.
@@ -149,9 +173,9 @@ fn channel_fair(r: &[u8]) -> bool
 }
 
 // The place behind the record at a place and, where the head says that they are included, behind its descriptors; or 8, 9, 10.
-// A channel record carries its number itself: it takes no index, and 0 stands for one.
+// Whatever the index: a channel record takes none.
 fn channel_step(b: &[u8], at: usize, included: u8) -> Skip
-    ensures { λ r. ⌜ Stands (now (b .entry)) r (entry (vcm included) 0 (from (now (b .entry)) at)) ⌝ }
+    ensures { λ r. ⌜ ((index : ℕ) → Stands (now (b .entry)) r (entry (vcm included) index (from (now (b .entry)) at))) ⌝ }
 {
     if fields::short(b, at, SIZE) {
         return Skip::Refused(8);
@@ -202,7 +226,7 @@ fn tail_of(included: u8) -> usize
 
 // Whether the record at a place is right and has no descriptors.
 fn is_plain(b: &[u8], at: usize, included: u8) -> bool
-    ensures { λ x. ⌜ (x ≡ true → Stands (now (b .entry)) (skip.At (at + 9 + tailOf included)) (entry (vcm included) 0 (from (now (b .entry)) at))) ⌝ }
+    ensures { λ x. ⌜ (x ≡ true → (index : ℕ) → Stands (now (b .entry)) (skip.At (at + 9 + tailOf included)) (entry (vcm included) index (from (now (b .entry)) at))) ⌝ }
 {
     if included == 1 {
         if fields::short(b, at, SIZE + 1) {
@@ -220,34 +244,39 @@ fn is_plain(b: &[u8], at: usize, included: u8) -> bool
 }
 
 // Over the records that are right and have no descriptors, as far as they go: the short way for what a plant mostly sends.
-fn skim(b: &[u8], start: usize, count: u8, included: u8) -> Reached
-    requires { ⌜ start ≤ length (now b) ⌝ }
-    ensures { λ r. ⌜ Skims (vcm included) count 0 (now (b .entry)) start r × (r .index ≡ 0) ⌝ }
+fn skim(b: &[u8], o: Outline) -> Outline
+    requires { ⌜ o .at ≤ length (now b) ⌝ }
+    ensures { λ r. ⌜ Reaches (vcm (o .included)) (now (b .entry)) (o .at) (o .first) (o .count) (r .at) (o .first) (r .count) ⌝ }
 {
-    let tail = tail_of(included);
-    let mut at = start;
-    let mut left = count;
+    let tail = tail_of(o.included);
+    let mut at = o.at;
+    let mut left = o.count;
     while 0 < left {
-        if !is_plain(b, at, included) {
+        if !is_plain(b, at, o.included) {
             break;
         }
         at = at + SIZE + tail;
         left -= 1;
     }
-    Reached { at, index: 0, left }
+    Outline {
+        at,
+        map: o.map,
+        first: o.first,
+        count: left,
+        included: o.included,
+    }
 }
 
-// The place behind so many records, the first of them at a place; or 8, 9, 10. The short way first, and from where that stops
-// record by record.
-pub fn past_channels(b: &[u8], start: usize, count: u8, included: u8) -> Skip
-    requires { ⌜ start ≤ length (now b) ⌝ }
-    ensures { λ r. ⌜ Stands (now (b .entry)) r (records (vcm included) count 0 (from (now (b .entry)) start)) ⌝ }
+// The place behind the records of an outline; or 8, 9, 10. The short way first, and from where that stops record by record.
+pub fn past_channels(b: &[u8], o: Outline) -> Skip
+    requires { ⌜ o .at ≤ length (now b) ⌝ }
+    ensures { λ r. ⌜ Stands (now (b .entry)) r (records (vcm (o .included)) (o .count) (o .first) (from (now (b .entry)) (o .at))) ⌝ }
 {
-    let reached = skim(b, start, count, included);
+    let reached = skim(b, o);
     let mut at = reached.at;
-    let mut left = reached.left;
+    let mut left = reached.count;
     while 0 < left {
-        let next = channel_step(b, at, included);
+        let next = channel_step(b, at, o.included);
         match next {
             Skip::At(i) => {
                 at = i;

@@ -1,57 +1,28 @@
 -- At each turn what is left of the records leaves what all of them leave.
-use Prim.Native.Nat.{_+_, _≤_, _<_}
 use native.Mathlib.Omega.{arith}
-use mathlib.Core.Path.{_≡_, refl}
-use lib.ListN.{length, take}
-use denote.Ref.{now}
-use lib.Dec.{leb, ltb, lit<}
+use mathlib.Core.Path.{refl}
 use borrow.Author.Needs.{needs}
-use borrow.Author.Tests.{leb-true, not-false}
-use Rattle.rules.specs.Bytes.{byte, from}
-use Rattle.rules.specs.Layout.{records}
-use Rattle.rules.specs.Tables.{carriersOf, carriersFair, cds}
-use Rattle.rules.proofs.Taken.{both-right}
-use Rattle.fields.specs.Place.{leftOf}
-use Rattle.fields.proofs.Laws.{first-byte, turn, turn-fair}
+use borrow.Author.Tests.{not-false}
+use Rattle.rules.specs.Tables.{cds}
+use Rattle.fields.specs.Place.{Reaches}
+use Rattle.fields.proofs.Walks.{begin}
+use Rattle.cds.proofs.Onward.{low, onward}
 use Rattle.cds.proofs.skim.Statement.{statement}
 use Rattle.cds.proofs.skim.Tie as tie
-
-abbrev Inv-loop : tie.InvT-loop
-Inv-loop b start first count at₀ index₀ left₀ at index left =
-    (at ≤ length b) × (index < 65536) × (leftOf (records cds count first (from b start)) ≡ leftOf (records cds left index (from b at)))
-
-abbrev μ-loop : tie.MeasureT-loop
-μ-loop b start first count at₀ index₀ left₀ at index left = left
-
-loop-again : tie.Need-loop-again Inv-loop μ-loop
-unfolding cds carriersOf carriersFair
-loop-again c =
-    let l = c .before .before .before .before .loop in
-    let b = now (c .before .before .before .before .before .before .args .b) in
-    let s = c .before .before .is-plain .ensures (not-false _ (c .before .if1 .left)) in
-    let count = first-byte b (l .at) 5 (lit< tt) in
-    let n = byte 0 (take 5 (from b (l .at))) in
-    let fair = leb-true (l .index + n) 256 (both-right (ltb 0 n) (leb (l .index + n) 256) (turn-fair cds _ _ _ _ s _ refl)) in
-    (s .within, omega (arith, count, fair), rw (← count) (turn cds _ _ _ _ s _ _ _ (c .before .before .before .loop-test .taken) refl (l .inv .2)))
-
-returns : tie.Need-returns Inv-loop μ-loop
-returns c = let l = c .before .loop .inv in record { within = l .0; same = l .2 }
 
 pub skim-spec : {M : Type 1} → statement M
 skim-spec =
     tie.close
-    (tie.spec
-    Inv-loop
-    μ-loop
-    (λ c. (search needs, search needs, refl))
-    (λ c κs. c .before .loop .inv .1)
+    (tie.spec (λ b o at₀ index₀ left₀ at index left. Reaches cds b (o .at) (o .first) (o .count) at index left) (λ b o at₀ index₀ left₀ at index left. left)
+    (λ c. search needs)
+    (λ c. begin cds (search needs) (search needs))
+    (λ c κs. c .before .loop .inv .small)
     (λ c. omega (arith, c .before .before .is-plain .ensures (not-false _ (c .before .if1 .left)) .within))
     (λ c. omega (arith, c .shared-slice-known2 .given (c .before .before .before .before .loop .at)))
-    (λ c. omega (arith, c .shared-slice-known2 .given (c .before .before .before .before .loop .at)))
+    (λ c. omega (arith, low _ _ (c .before .before .is-plain .ensures (not-false _ (c .before .if1 .left))) refl))
     (λ c. omega (arith, c .before .before .is-plain .ensures (not-false _ (c .before .if1 .left)) .within))
     (λ c. omega (arith, c .before .before .is-plain .ensures (not-false _ (c .before .if1 .left)) .within))
-    (λ c. search needs)
-    (λ c. search needs)
-    loop-again
-    (λ c. omega (arith, c .before .loop .inv .1))
-    returns)
+    (λ c. search needs) (λ c. search needs)
+    (λ c. onward _ _ (c .before .before .is-plain .ensures (not-false _ (c .before .if1 .left))) refl (c .before .before .before .before .loop .inv) (omega arith) _ refl)
+    (λ c. omega (arith, c .before .loop .inv .small))
+    (λ c. c .before .loop .inv))

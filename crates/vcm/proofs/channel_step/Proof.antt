@@ -10,9 +10,9 @@ use Rattle.vcm.proofs.channel_step.Tie as tie
 
 returns : tie.Need-returns
 unfolding vcm
-returns c =
+returns c = λ index.
     let l = vcm (c .before .before .before .args .included) in
-    step-no l _ _ _ _ (taken-short (l .block) _ _ _ (omega (arith, too-short _ _ _ (c .before .short .ensures) (c .if1 .taken))))
+    step-no l _ _ index _ (taken-short (l .block) _ _ _ (omega (arith, too-short _ _ _ (c .before .short .ensures) (c .if1 .taken))))
 
 add-r : tie.Need-add-r
 add-r c = omega (arith, long-enough _ _ _ (c .before .short .ensures) (c .if1 .left))
@@ -27,13 +27,13 @@ add-past-counted c =
 
 returns-2 : tie.Need-returns-2
 unfolding vcm channelFair
-returns-2 c =
+returns-2 c = λ index.
     let f = c .before .before .before .before .before .before .before in
     let a = f .before .before .before .args in
     let h = long-enough _ _ _ (f .before .short .ensures) (f .if1 .left) in
     let p = part-whole (now (a .b)) (a .at) 9 in
     let l = vcm (a .included) in
-    step-so l _ _ _ (taken-here (l .block) _ _ _ (omega (arith, h)) (cc) (cc)) _
+    step-so l _ _ index (taken-here (l .block) _ _ _ (omega (arith, h)) (cc) (cc)) _
     (rw (eq-eqb (a .included) 1 (c .before .if4 .taken)) (c .past-counted .ensures))
 
 add-behind : tie.Need-add-t14
@@ -43,34 +43,34 @@ add-behind c =
 
 returns-3 : tie.Need-returns-3
 unfolding vcm channelFair
-returns-3 c =
+returns-3 c = λ index.
     let f = c .before .before .before .before .before .before in
     let a = f .before .before .before .args in
     let h = long-enough _ _ _ (f .before .short .ensures) (f .if1 .left) in
     let p = part-whole (now (a .b)) (a .at) 9 in
     let l = vcm (a .included) in
-    step-so l _ _ _ (taken-here (l .block) _ _ _ (omega (arith, h)) (cc) (cc)) _
+    step-so l _ _ index (taken-here (l .block) _ _ _ (omega (arith, h)) (cc) (cc)) _
     (stands-at _ _ _ _ (counted-not _ _ _ (ne-eqb (a .included) 1 (c .if4 .left))) (omega (arith, h)))
 
 returns-4 : tie.Need-returns-4
 unfolding vcm channelFair
-returns-4 c =
+returns-4 c = λ index.
     let f = c .before .before .before .before .before in
     let a = f .before .before .before .args in
     let h = long-enough _ _ _ (f .before .short .ensures) (f .if1 .left) in
     let p = part-whole (now (a .b)) (a .at) 9 in
     let l = vcm (a .included) in
-    step-no l _ _ _ _ (taken-unfair (l .block) _ _ _ (omega (arith, h)) (cc) (cc))
+    step-no l _ _ index _ (taken-unfair (l .block) _ _ _ (omega (arith, h)) (cc) (cc))
 
 returns-5 : tie.Need-returns-5
 unfolding vcm
-returns-5 c =
+returns-5 c = λ index.
     let f = c .before .before .before in
     let a = f .before .before .before .args in
     let h = long-enough _ _ _ (f .before .short .ensures) (f .if1 .left) in
     let p = part-whole (now (a .b)) (a .at) 9 in
     let l = vcm (a .included) in
-    step-no l _ _ _ _ (taken-zeros (l .block) _ _ _ (omega (arith, h)) (cc))
+    step-no l _ _ index _ (taken-zeros (l .block) _ _ _ (omega (arith, h)) (cc))
 
 pub channel-step-spec : {M : Type 1} → statement M
 channel-step-spec =

@@ -27,8 +27,8 @@ part-is-right-end : tie.Need-part-is-right-end
 part-is-right-end c = omega (arith, long-enough _ _ _ (c .before .before .before .short .ensures) (c .before .before .if2 .left))
 
 returns-3 : tie.Need-returns-3
-unfolding vcm tailOf
-returns-3 c = λ e.
+unfolding vcm tailOf channelFair
+returns-3 c = λ e index.
     let f = c .before .before .before .before in
     let a = c .before .before .before .before .before .before .before .before .args in
     let h = long-enough _ _ _ (f .before .short .ensures) (f .if2 .left) in
@@ -36,7 +36,7 @@ returns-3 c = λ e.
     let both = rw (part-whole (now (a .b)) (a .at) 9) at (c .is-right .ensures e) in
     let l = vcm (a .included) in
     let one = eq-eqb (a .included) 1 (c .before .before .before .before .before .before .if1 .taken) in
-    step-so l _ _ _ (taken-here (l .block) _ _ _ (omega (arith, h)) (both-left (channelZeros r) (channelFair 0 (channelOf r)) both) (both-right (channelZeros r) (channelFair 0 (channelOf r)) both)) _
+    step-so l _ _ index (taken-here (l .block) _ _ _ (omega (arith, h)) (both-left (channelZeros r) (channelFair 0 (channelOf r)) both) (both-right (channelZeros r) (channelFair 0 (channelOf r)) both)) _
     (rw one (stands-at _ _ _ _ (counted-zero (now (a .b)) _ _ refl (omega (arith, h)) (c .before .before .if3 .left)) (omega (arith, h))))
 
 add-is-right-2 : tie.Need-add-is-right-2
@@ -46,8 +46,8 @@ part-is-right-end-2 : tie.Need-part-is-right-end-2
 part-is-right-end-2 c = omega (arith, long-enough _ _ _ (c .before .short2 .ensures) (c .if4 .left))
 
 returns-5 : tie.Need-returns-5
-unfolding vcm tailOf
-returns-5 c = λ e.
+unfolding vcm tailOf channelFair
+returns-5 c = λ e index.
     let f = c .before .before in
     let a = c .before .before .before .before .before .before .args in
     let h = long-enough _ _ _ (f .before .short2 .ensures) (f .if4 .left) in
@@ -55,7 +55,7 @@ returns-5 c = λ e.
     let both = rw (part-whole (now (a .b)) (a .at) 9) at (c .is-right2 .ensures e) in
     let l = vcm (a .included) in
     let not = ne-eqb (a .included) 1 (c .before .before .before .before .if1 .left) in
-    step-so l _ _ _ (taken-here (l .block) _ _ _ (omega (arith, h)) (both-left (channelZeros r) (channelFair 0 (channelOf r)) both) (both-right (channelZeros r) (channelFair 0 (channelOf r)) both)) _
+    step-so l _ _ index (taken-here (l .block) _ _ _ (omega (arith, h)) (both-left (channelZeros r) (channelFair 0 (channelOf r)) both) (both-right (channelZeros r) (channelFair 0 (channelOf r)) both)) _
     (rw (not, add-zero) (stands-at _ _ _ _ (counted-not _ _ _ refl) (omega (arith, h))))
 
 pub is-plain-spec : {M : Type 1} → statement M

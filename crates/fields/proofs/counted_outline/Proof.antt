@@ -1,0 +1,13 @@
+-- First index 0 is refused; the records stand right behind the header.
+use borrow.Author.Needs.{needs}
+use Rattle.fields.proofs.Outlines.{counted-no, counted-so}
+use Rattle.fields.proofs.counted_outline.Statement.{statement}
+use Rattle.fields.proofs.counted_outline.Tie as tie
+
+pub counted-outline-spec : {M : Type 1} → statement M
+counted-outline-spec =
+    tie.close
+    (tie.spec (λ c κs. search needs) (λ c κs. search needs)
+    (λ c. counted-no _ _ (c .before .before .byte .ensures) (c .if1 .taken))
+    (λ c. search needs)
+    (λ c. counted-so _ _ _ (c .before .before .byte .ensures) (c .before .byte2 .ensures) (c .if1 .left)))
