@@ -1,7 +1,7 @@
 // Holding and going live: the state of a box by value, the store that is lent with it, and what an offered section does to
 // both. Refusals 1 and 2, the reader's 3 to 11, 12 and 13; other map, repeat, stored and live.
 ghost use mathlib.Core.Path.{_≡_};
-ghost use Rattle.rules.specs.Holding.{fresh, with, gatheredAt, takesIn, offered, storeAfter};
+ghost use Rattle.rules.specs.Holding.{fresh, takesIn, offered, storeAfter};
 ghost use Rattle.rules.specs.Said.{answerSaid, offerSaid};
 ghost use Rattle.receiver.specs.Taking.{answered, Admitted};
 use rules::Answer;
@@ -13,7 +13,6 @@ use rules::Read;
 use rules::SectionHead;
 use rules::Settings;
 use rules::State;
-use rules::Table;
 use rules::Tables;
 
 // ---- the state
@@ -51,40 +50,6 @@ pub fn start(map: u16) -> State
     }
 }
 
-// The state with another holding for one table, and the others as they were.
-fn with_holding(s: State, t: Table, h: Holding) -> State
-    ensures { λ x. ⌜ x ≡ with s t h ⌝ }
-{
-    let mut tables = s.tables;
-    match t {
-        Table::Cds => {
-            tables.cds = h;
-        }
-        Table::Mms => {
-            tables.mms = h;
-        }
-        Table::Vcm => {
-            tables.vcm = h;
-        }
-        Table::Dcm => {
-            tables.dcm = h;
-        }
-    }
-    let settings = s.settings;
-    State { tables, settings }
-}
-
-// ---- the store
-
-// Where section n of a table is put: in the other half than the one set.
-fn gathered_at(s: State, t: Table, n: u8) -> usize
-    ensures { λ x. ⌜ x ≡ gatheredAt s t n ⌝ }
-{
-    let h = state::holding_of(s, t);
-    let half = holding::gathering_half(h);
-    state::place_of(s, t, half, n)
-}
-
 // ---- an offer
 
 // The answers of steps 5 and 6.
@@ -117,7 +82,7 @@ fn answer_to(s: State, head: SectionHead) -> Offered
     let stepped = holding::step(state::limit_of(s), h, r);
     let answer = stepped.answer;
     let holding = stepped.holding;
-    let state = with_holding(s, t, holding);
+    let state = state::with_holding(s, t, holding);
     Offered { answer, state }
 }
 
@@ -131,7 +96,7 @@ fn hold(state: State, store: &mut [u8], section: &[u8], head: SectionHead) -> Of
     let answer = offered.answer;
     if takes_in(answer) {
         let t = head.table;
-        let at = gathered_at(state, t, head.revision.number);
+        let at = state::gathered_at(state, t, head.revision.number);
         fields::put(store, at, section);
         return offered;
     }

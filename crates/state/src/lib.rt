@@ -1,9 +1,17 @@
 // What a state and the store that is lent with it are, for those who hold and those who tune: how many sections a table may have,
-// whether the state is well formed, whose map a section is of, where the places are, and the section that stands in one.
+// whether the state is well formed, whose map a section is of, where the places are, the section that stands in one, and check 16 of
+// a table's places.
 ghost use mathlib.Core.Path.{_≡_};
+ghost use mathlib.Core.Bool.{_&&_};
 ghost use Prim.Native.Nat.{_≤_};
-ghost use Rattle.rules.specs.Holding.{limitOf, indexOf, holdingOf, placeOf, storeSize, sectionAt, liveAt, wellFormed, notOurs};
+ghost use lib.Dec.{eqb};
+ghost use Rattle.rules.specs.Holding.{limitOf, indexOf, holdingOf, with, placeOf, storeSize, sectionAt, liveAt, gatheredAt, wellFormed, notOurs};
+ghost use Rattle.rules.specs.Tuning.{isSection, placeReads, tableReads};
 use rules::Holding;
+use rules::LiveVersion;
+use rules::Read;
+use rules::Revision;
+use rules::SectionHead;
 use rules::State;
 use rules::Table;
 
@@ -48,6 +56,29 @@ pub fn holding_of(s: State, t: Table) -> Holding
         Table::Vcm => s.tables.vcm,
         Table::Dcm => s.tables.dcm,
     }
+}
+
+// The state with another holding for one table, and the others as they were.
+pub fn with_holding(s: State, t: Table, h: Holding) -> State
+    ensures { λ x. ⌜ x ≡ with s t h ⌝ }
+{
+    let mut tables = s.tables;
+    match t {
+        Table::Cds => {
+            tables.cds = h;
+        }
+        Table::Mms => {
+            tables.mms = h;
+        }
+        Table::Vcm => {
+            tables.vcm = h;
+        }
+        Table::Dcm => {
+            tables.dcm = h;
+        }
+    }
+    let settings = s.settings;
+    State { tables, settings }
 }
 
 // 0xC4 has a map number, and it is another one than the state's.
@@ -104,4 +135,68 @@ pub fn live_section(s: State, store: &[u8], t: Table, n: u8) -> &[u8]
 {
     let h = holding_of(s, t);
     section_at(store, place_of(s, t, h.half, n))
+}
+
+// Where section n of a table is put: in the other half than the one set.
+pub fn gathered_at(s: State, t: Table, n: u8) -> usize
+    ensures { λ x. ⌜ x ≡ gatheredAt s t n ⌝ }
+{
+    let h = holding_of(s, t);
+    let half = holding::gathering_half(h);
+    place_of(s, t, half, n)
+}
+
+// ---- check 16: the places of a live table, read again
+
+// Whether a revision is that of section n of a live version.
+fn is_revision_of(live: LiveVersion, n: u8, r: Revision) -> bool
+    ensures { λ x. ⌜ x ≡ (eqb (r .version) (live .version) && eqb (r .number) n && eqb (r .last) (live .last)) ⌝ }
+{
+    if r.version != live.version {
+        return false;
+    }
+    if r.number != n {
+        return false;
+    }
+    r.last == live.last
+}
+
+// Whether a section that reads right is section n of a live table: that table, map, version, number and last.
+fn is_section_of(s: State, t: Table, n: u8, head: SectionHead) -> bool
+    ensures { λ x. ⌜ x ≡ isSection s t n (head .table) (notOurs s (head .table) (head .map)) (head .revision) ⌝ }
+{
+    let table = head.table;
+    if index_of(table) != index_of(t) {
+        return false;
+    }
+    if is_for_other(s, table, head.map) {
+        return false;
+    }
+    let h = holding_of(s, t);
+    is_revision_of(h.live, n, head.revision)
+}
+
+// Whether the place of section n of a live table still reads right as that section.
+fn place_reads(s: State, store: &[u8], t: Table, n: u8) -> bool
+    ensures { λ x. ⌜ x ≡ placeReads s (now (store .entry)) t n ⌝ }
+{
+    let read = section::read_section(live_section(s, store, t, n));
+    match read {
+        Read::Refused(_) => false,
+        Read::Right(head) => is_section_of(s, t, n, head),
+    }
+}
+
+// Whether all places of a live table do.
+pub fn table_reads(s: State, store: &[u8], t: Table) -> bool
+    ensures { λ x. ⌜ x ≡ tableReads s (now (store .entry)) t ⌝ }
+{
+    let h = holding_of(s, t);
+    let sections = h.live.last as u16 + 1;
+    for n in 0..sections {
+        if !place_reads(s, store, t, n as u8) {
+            return false;
+        }
+    }
+    true
 }

@@ -1,68 +1,24 @@
--- What the checks leave, what check 16 says of a place, and each stage of a look-up as the rule has it.
-use Prim.Native.Nat.{ℕ, _+_, _<_, _≤_}
+-- What the checks leave, and each stage of a look-up as the rule has it.
+use Prim.Native.Nat.{ℕ, _<_, _≤_}
 use native.Mathlib.Omega.{arith}
-use native.Mathlib.Numerals.{add-one}
 use mathlib.Core.Path.{_≡_, refl, sym, ap, _∙_}
 use mathlib.Core.Bool.{Bool, true, false, cond, not}
 use mathlib.Core.List.{List}
 use lib.ListN.{length}
 use lib.Dec.{leb}
 use borrow.Author.Tests.{le-leb, lt-leb, leb-true, ne-eqb, not-true}
-use Rattle.rules.specs.Section.{Reading, wrong, right, withoutCrc, readSection, headOf, readAs}
-use Rattle.rules.specs.Holding.{limitOf, listed, notOurs, otherMap, readFor, storeSize, sectionAt, holdingOf, liveAt, wellFormed}
-use Rattle.rules.specs.Tuning.{neededTables, isSection, tableLive, allLive, readsAs, every, liveReading, placeReads, tableReads, allRead, plant, needs, lookUp, tune}
+use Rattle.rules.specs.Holding.{limitOf, listed, storeSize, holdingOf, wellFormed}
+use Rattle.rules.specs.Tuning.{neededTables, tableLive, allLive, tableReads, allRead, plant, needs, lookUp, tune}
 use Rattle.rules.specs.declared.Table.{Table}
 use Rattle.rules.specs.declared.State.{State}
-use Rattle.rules.specs.declared.SectionHead.{SectionHead}
-use Rattle.rules.specs.declared.Read.the-variants as Read
 use Rattle.rules.specs.declared.Tuned.{Tuned}
 use Rattle.rules.specs.declared.Tuned.the-variants as Tuned
 use Rattle.rules.proofs.Taken.{differ}
-use Rattle.rules.proofs.Formed.{formed}
-use Rattle.rules.proofs.States.{each-at, each-no, table-formed, limit-some}
-use Rattle.rules.proofs.Placed.{last-low}
-use Rattle.rules.proofs.LivePlaces.{every-at}
+use Rattle.rules.proofs.States.{each-at, each-no}
 use Rattle.search.specs.Live.{Live}
-use Rattle.tuner.specs.Checks.{checks, Few}
-
--- ---- check 16 of one place
-
-section-of : (s : State) (t : Table) (n : ℕ) (section : List ℕ) (head : SectionHead) (r : Reading) → Read.Right head ≡ readAs section r → isSection s t n (head .table) (notOurs s (head .table) (head .map)) (head .revision) ≡ readsAs s t n r
-unfolding readAs readsAs headOf otherMap
-section-of s t n section head (wrong k) e = let z : _≡_ {A = ℕ} 0 1 = cc in absurd (omega arith)
-section-of s t n section head (right c) e = let is : head ≡ headOf (withoutCrc section) c = cc in rw is
-
-not-a-section : (s : State) (t : Table) (n k : ℕ) (section : List ℕ) (r : Reading) → Read.Refused k ≡ readAs section r → false ≡ readsAs s t n r
-unfolding readAs readsAs
-not-a-section s t n k section (wrong m) e = refl
-not-a-section s t n k section (right c) e = let z : _≡_ {A = ℕ} 0 1 = cc in absurd (omega arith)
-
-module _ (s : State) (store : List ℕ) (t : Table) (n : ℕ) (section : List ℕ) (there : section ≡ sectionAt store (liveAt s t n)) where
-  pub place-right : (head : SectionHead) → Read.Right head ≡ readAs section (readSection section) → isSection s t n (head .table) (notOurs s (head .table) (head .map)) (head .revision) ≡ placeReads s store t n
-  unfolding placeReads liveReading readFor
-  place-right head e = rw (← there) (section-of s t n section head (readSection section) e)
-
-  pub place-wrong : (k : ℕ) → Read.Refused k ≡ readAs section (readSection section) → false ≡ placeReads s store t n
-  unfolding placeReads liveReading readFor
-  place-wrong k e = rw (← there) (not-a-section s t n k section (readSection section) e)
-
--- ---- and of all places of a table
-
-pub every-more : (n : ℕ) (test : ℕ → Bool) → every n test ≡ true → test n ≡ true → every (n + 1) test ≡ true
-unfolding every
-every-more n test e q = rw (add-one, e, q)
-
-pub every-fails : (n : ℕ) (test : ℕ → Bool) (k : ℕ) → k < n → test k ≡ false → every n test ≡ false
-every-fails n test k lt e = go (every n test) refl
-  where
-    go : (b : Bool) → every n test ≡ b → b ≡ false
-    go true q = absurd (differ (sym (every-at n test q k lt) ∙ e))
-    go false q = refl
+use Rattle.tuner.specs.Checks.{checks}
 
 -- ---- what the checks leave
-
-pub few : (s : State) → wellFormed s ≡ true → Few s
-few s good = record { few = λ t. last-low (limitOf s) (holdingOf s t .live) (limit-some s) (formed (limitOf s) (holdingOf s t) (table-formed s t good) .live) }
 
 -- a table that was found not to be live, or not to read right
 pub one-not-live : (s : State) (t : Table) → listed neededTables t ≡ true → (holdingOf s t .live .present ≡ 1 → ⊥) → false ≡ allLive s

@@ -1,12 +1,11 @@
 -- The checks of tuning that no channel number changes, and what the code's own steps to them mean.
-use Prim.Native.Nat.{ℕ, _<_}
+use Prim.Native.Nat.{ℕ}
 use mathlib.Core.Bool.{cond}
 use mathlib.Core.List.{List}
 use lib.ListN.{length}
 use lib.Dec.{leb}
-use Rattle.rules.specs.Holding.{limitOf, storeSize, holdingOf, wellFormed}
+use Rattle.rules.specs.Holding.{limitOf, storeSize, wellFormed}
 use Rattle.rules.specs.Tuning.{allLive, allRead}
-use Rattle.rules.specs.declared.Table.{Table}
 use Rattle.rules.specs.declared.State.{State}
 
 -- "1, 2, 14, 15, 16" without 14: the first that holds, or 0
@@ -16,7 +15,3 @@ checks s store =
     (cond (wellFormed s)
     (cond (allLive s)
     (cond (allRead s store) 0 16) 15) 2) 1
-
--- no table has more live sections than it may have
-pub record Few (s : State) : Type 0 where
-  pub few : (t : Table) → holdingOf s t .live .last < limitOf s

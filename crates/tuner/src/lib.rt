@@ -2,18 +2,14 @@
 // 2, 15 and 16) are made by `check`; where they passed `look_up` and `look_up_listed` look channels up without making them
 // again; `tune` is check and look-up.
 ghost use mathlib.Core.Path.{_≡_};
-ghost use Prim.Native.Nat.{_<_};
-ghost use Rattle.rules.specs.Holding.{limitOf, holdingOf, notOurs};
-ghost use Rattle.rules.specs.Tuning.{allLive, isSection, placeReads, tableReads, allRead, Plant, plant, inReach, tuneSignal, tuneKhz, tuneCarrier, tuneChannel};
+ghost use Rattle.rules.specs.Tuning.{allLive, allRead, Plant, plant, inReach, tuneSignal, tuneKhz, tuneCarrier, tuneChannel};
 ghost use Rattle.rules.specs.Tuning as rule;
 ghost use Rattle.rules.specs.Said.{tunedSaid, tuneSaid};
 ghost use Rattle.rules.specs.declared.Signal.the-variants as signal;
 ghost use Rattle.rules.specs.declared.Table.the-variants as table;
-ghost use Rattle.tuner.specs.Checks.{checks, Few};
+ghost use Rattle.tuner.specs.Checks.{checks};
 ghost use Rattle.tuner.specs.Found.{modeReference, CarrierIn, ModeIn, applicationOf, Listed, AllListed};
 use rules::Channel;
-use rules::Read;
-use rules::SectionHead;
 use rules::Signal;
 use rules::State;
 use rules::Table;
@@ -43,69 +39,19 @@ fn all_live(s: State) -> bool
     true
 }
 
-// Whether a section that reads right is section n of a live table: that table, map, version, number and last.
-fn is_section_of(s: State, t: Table, n: u8, head: SectionHead) -> bool
-    ensures { λ x. ⌜ x ≡ isSection s t n (head .table) (notOurs s (head .table) (head .map)) (head .revision) ⌝ }
-{
-    let table = head.table;
-    if state::index_of(table) != state::index_of(t) {
-        return false;
-    }
-    if state::is_for_other(s, table, head.map) {
-        return false;
-    }
-    let h = state::holding_of(s, t);
-    if head.revision.version != h.live.version {
-        return false;
-    }
-    if head.revision.number != n {
-        return false;
-    }
-    if head.revision.last != h.live.last {
-        return false;
-    }
-    true
-}
-
-// Whether the place of section n of a live table still reads right as that section.
-fn place_reads(s: State, store: &[u8], t: Table, n: u8) -> bool
-    ensures { λ x. ⌜ x ≡ placeReads s (now (store .entry)) t n ⌝ }
-{
-    let read = section::read_section(state::live_section(s, store, t, n));
-    match read {
-        Read::Refused(_) => false,
-        Read::Right(head) => is_section_of(s, t, n, head),
-    }
-}
-
-fn table_reads(s: State, store: &[u8], t: Table) -> bool
-    requires { ⌜ holdingOf s t .live .last < limitOf s ⌝ }
-    ensures { λ x. ⌜ x ≡ tableReads s (now (store .entry)) t ⌝ }
-{
-    let h = state::holding_of(s, t);
-    let sections = h.live.last + 1;
-    for n in 0..sections {
-        if !place_reads(s, store, t, n) {
-            return false;
-        }
-    }
-    true
-}
-
 fn all_read(s: State, store: &[u8]) -> bool
-    requires { ⌜ Few s ⌝ }
     ensures { λ x. ⌜ x ≡ allRead s (now (store .entry)) ⌝ }
 {
-    if !table_reads(s, store, Table::Cds) {
+    if !state::table_reads(s, store, Table::Cds) {
         return false;
     }
-    if !table_reads(s, store, Table::Mms) {
+    if !state::table_reads(s, store, Table::Mms) {
         return false;
     }
-    if !table_reads(s, store, Table::Vcm) {
+    if !state::table_reads(s, store, Table::Vcm) {
         return false;
     }
-    table_reads(s, store, Table::Dcm)
+    state::table_reads(s, store, Table::Dcm)
 }
 
 // The number of the refusal that goes for every channel, 1, 2, 15 or 16, or 0: channels can be looked up.

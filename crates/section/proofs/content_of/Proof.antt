@@ -13,4 +13,4 @@ content-of-spec =
     (λ c κs. content-headed _ _ (sym (c .before .header2 .given .1) ∙ c .before .before .before .header-of .ensures) .1)
     (λ c. shown-no _ _ _ (content-unheaded _ _ (sym (c .before .header .given .1) ∙ c .before .before .before .header-of .ensures)))
     (λ c. let f = c .before .before in
-        c .structured .ensures ∙ ap (answeredAs _) (sym (content-headed _ _ (sym (f .header2 .given .1) ∙ f .before .before .header-of .ensures) .0))))
+    c .structured .ensures ∙ ap (answeredAs _) (sym (content-headed _ _ (sym (f .header2 .given .1) ∙ f .before .before .header-of .ensures) .0))))

@@ -1,10 +1,10 @@
 -- What the place's section reads as, compared by its head.
 use mathlib.Core.Path.{sym, _∙_}
 use denote.Ref.{now}
-use Rattle.tuner.proofs.Laws.{place-right, place-wrong}
+use Rattle.state.proofs.Reading.{place-right, place-wrong}
 use borrow.Author.Needs.{needs}
-use Rattle.tuner.proofs.place_reads.Statement.{statement}
-use Rattle.tuner.proofs.place_reads.Tie as tie
+use Rattle.state.proofs.place_reads.Statement.{statement}
+use Rattle.state.proofs.place_reads.Tie as tie
 
 returns : tie.Need-returns
 returns c = let a = c .before .before .before .before .before .args in

@@ -2,8 +2,8 @@
 use mathlib.Core.Logic.{⊎-elim}
 use Rattle.rules.specs.Holding.{with}
 use borrow.Author.Needs.{needs}
-use Rattle.receiver.proofs.with_holding.Statement.{statement}
-use Rattle.receiver.proofs.with_holding.Tie as tie
+use Rattle.state.proofs.with_holding.Statement.{statement}
+use Rattle.state.proofs.with_holding.Tie as tie
 
 returns : tie.Need-returns
 unfolding with
