@@ -12,7 +12,7 @@ use lib.Dec.{leb}
 use borrow.Author.Tests.{leb-true, leb-false}
 use Rattle.rules.specs.Bytes.{Got, refused, got, unless, andThen, giving, byte, from}
 use Rattle.rules.specs.Descriptors.{Descriptor, descriptor, passed, counted}
-use Rattle.rules.specs.Layout.{Block, extent, taken, Layout, entry, after, records}
+use Rattle.rules.specs.Layout.{Numbered, Block, extent, taken, Layout, entry, after, records}
 use Rattle.rules.specs.Form.{Front, Form}
 use Rattle.rules.specs.Section.{Structure, inFront, structure}
 use Rattle.rules.proofs.Taken.{unless-got}
@@ -126,13 +126,23 @@ ends-taken : {R : Type 0} (b : Block R) (limits : R → Bool) (bs : List ℕ) �
 unfolding taken
 ends-taken b limits bs = ends-unless bs _ 8 _ (ends-unless bs _ 9 _ (ends-unless bs _ 10 _ (extent b bs, refl)))
 
+ends-entry : {R : Type 0} (l : Layout R) (index : ℕ) (bs : List ℕ) → Ends (entry l index bs) bs
+unfolding entry
+ends-entry l index bs =
+    ends-then bs (taken (l .block) (l .fair index) bs) (λ r rest. giving (λ x. record { index = index; what = r }) (counted (l .described) rest))
+    (ends-taken (l .block) (l .fair index) bs)
+    (λ r rest. ends-giving rest (λ x. record { index = index; what = r }) (counted (l .described) rest) (ends-counted (l .described) rest))
+
+-- what a record leaves stands at a place of the bytes
+pub entry-place : {R : Type 0} (l : Layout R) (index : ℕ) (b : List ℕ) (at : ℕ) (r : Numbered R) (rest : List ℕ) → entry l index (from b at) ≡ got r rest → (place : ℕ) × (rest ≡ from b place)
+entry-place {R} l index b at r rest e =
+    suffix-trans rest (from b at) b (subst (λ (g : Got (Numbered R)). Ends g (from b at)) e (ends-entry l index (from b at))) (at, refl)
+
 ends-records : {R : Type 0} (l : Layout R) (n index : ℕ) (bs : List ℕ) → Ends (records l n index bs) bs
-unfolding records entry from
+unfolding records from
 ends-records l zero index bs = (0, refl)
 ends-records l (suc n) index bs =
-    ends-then bs (entry l index bs) (λ r rest. giving (λ rs. r ∷ rs) (records l n (after l r) rest))
-    (ends-then bs (taken (l .block) (l .fair index) bs) (λ r rest. giving (λ x. record { index = index; what = r }) (counted (l .described) rest)) (ends-taken (l .block) (l .fair index) bs)
-    (λ r rest. ends-giving rest (λ x. record { index = index; what = r }) (counted (l .described) rest) (ends-counted (l .described) rest)))
+    ends-then bs (entry l index bs) (λ r rest. giving (λ rs. r ∷ rs) (records l n (after l r) rest)) (ends-entry l index bs)
     (λ r rest. ends-giving rest (λ rs. r ∷ rs) (records l n (after l r) rest) (ends-records l n (after l r) rest))
 
 ends-structure : (f : Form) (x : Front) (bs : List ℕ) → Ends (structure f x bs) bs

@@ -1,6 +1,7 @@
-pub mod Walked
-pub mod Bridge
-pub mod Laws
-pub mod Determined
-pub mod Marks
+pub mod Sections
+pub mod Entries
+pub mod Named
 pub mod Listed
+pub mod Laws
+pub mod Marks
+pub mod Determined

@@ -1,15 +1,23 @@
-// The four searches of the live tables: nested loops over sections and records, left from inside at the first match. They go over
-// places that passed check 16, so a record is passed by its size and its descriptors alone.
+// The search of the live tables, for channels, carriers, modes and ranges alike: nested loops over sections and records, left from inside at
+// the first match. It goes over places that passed check 16, so a record is passed by its size and its descriptors alone. What is
+// found is an entry, a number that says where in the store the record stands; what the record says is read there.
 ghost use mathlib.Core.Path.{_≡_};
-ghost use Prim.Native.Nat.{_-_, _≤_};
+ghost use Prim.Native.Nat.{_+_, _-_, _*_, _%_, _^_, _≤_, _<_};
 ghost use lib.ListN.{length};
+ghost use Rattle.rules.specs.Bytes.{from};
+ghost use Rattle.rules.specs.Descriptors.{counted};
+ghost use Rattle.rules.specs.Layout.{extent};
 ghost use Rattle.rules.specs.Tables.{inKhz, carrierKhz};
 ghost use Rattle.rules.specs.Section.{withoutCrc};
 ghost use Rattle.rules.specs.Holding.{sectionAt, liveAt};
-ghost use Rattle.rules.specs.Search.{first};
-ghost use Rattle.rules.specs.Tuning.{covers, isCarrier, isMode, isChannel, carriersIn, modesIn, channelsIn, rangesIn, liveRecords, defined};
+ghost use Rattle.rules.specs.Tuning.{covers, definedBy};
 ghost use Rattle.rules.specs.declared.Table.the-variants as table;
-ghost use Rattle.search.specs.Live.{Live, walkOf, carrierFound, modeFound, channelFound};
+ghost use Rattle.fields.specs.Place.{Stands};
+ghost use Rattle.fields.specs.Outline.{layoutOf};
+ghost use Rattle.search.specs.Entries.{Live, outlineIn, spanOf, recordNamed, entryOf};
+ghost use Rattle.search.specs.Found.{carrierFound, modeFound, channelFound};
+use fields::Outline;
+use fields::Outlined;
 use fields::Skip;
 use rules::Carriers;
 use rules::Channel;
@@ -18,59 +26,9 @@ use rules::Mode;
 use rules::State;
 use rules::Table;
 
-pub mod listing; // all records of a table at once
+pub mod listing; // the entries of all numbers at once
 
-// ---- where the records of a live section stand
-
-// Where they begin, at which index or channel, how many there are, and whether a channel record's descriptors are included.
-struct Walk {
-    at: usize,
-    index: u16,
-    count: u8,
-    included: u8,
-}
-
-// Bytes of the header.
-const HEADER: usize = 7;
-
-// What 0xC2 has in its header: first index, then record count.
-fn counted_walk(b: &[u8]) -> Walk
-    ensures { λ x. ⌜ x ≡ walkOf table.Cds (now (b .entry)) ⌝ }
-{
-    Walk {
-        at: HEADER,
-        index: fields::byte(b, 4) as u16,
-        count: fields::byte(b, 5),
-        included: 0,
-    }
-}
-
-fn walk_of(t: Table, b: &[u8]) -> Walk
-    ensures { λ x. ⌜ x ≡ walkOf t (now (b .entry)) ⌝ }
-{
-    match t {
-        Table::Cds => counted_walk(b),
-        Table::Mms => counted_walk(b),
-        Table::Vcm => {
-            let h = vcm::head_of(fields::part(b, HEADER, vcm::HEAD));
-            Walk {
-                at: HEADER + vcm::HEAD,
-                index: 0,
-                count: h.count,
-                included: h.included,
-            }
-        }
-        Table::Dcm => {
-            let h = dcm::head_of(fields::part(b, HEADER, dcm::HEAD));
-            Walk {
-                at: HEADER + dcm::HEAD,
-                index: h.first,
-                count: h.count,
-                included: 0,
-            }
-        }
-    }
-}
+// ---- the records of a live section
 
 // The section in the place of section n of a live table, without its CRC.
 fn live_bytes(s: State, store: &[u8], t: Table, n: u8) -> &[u8]
@@ -83,6 +41,66 @@ fn live_bytes(s: State, store: &[u8], t: Table, n: u8) -> &[u8]
     &section[..section.len() - 4]
 }
 
+// Where the records stand. What is in front of those of a section that reads right is not refused; if it were there would be none.
+fn outline_in(outlined: Outlined) -> Outline
+    ensures { λ x. ⌜ x ≡ outlineIn outlined ⌝ }
+{
+    match outlined {
+        Outlined::Refused(_) => Outline {
+            at: 0,
+            map: 0,
+            first: 0,
+            count: 0,
+            included: 0,
+        },
+        Outlined::Records(outline) => outline,
+    }
+}
+
+// The numbers that a record goes by, and how many indices it takes.
+pub struct Span {
+    pub first: u32,
+    pub count: u8,
+    pub takes: u8,
+}
+
+// Of the record at a place, which has the given index.
+fn span_of(t: Table, b: &[u8], at: usize, index: u32) -> Span
+    ensures { λ x. ⌜ x ≡ spanOf t index (from (now (b .entry)) at) ⌝ }
+{
+    match t {
+        Table::Cds => {
+            let c = cds::carriers_of(fields::part(b, at, cds::SIZE));
+            Span {
+                first: index,
+                count: c.count,
+                takes: c.count,
+            }
+        }
+        Table::Mms => Span {
+            first: index,
+            count: 1,
+            takes: 1,
+        },
+        Table::Vcm => {
+            let number = vcm::number_of(fields::part(b, at, vcm::SIZE));
+            Span {
+                first: number as u32,
+                count: 1,
+                takes: 0,
+            }
+        }
+        Table::Dcm => {
+            let r = dcm::range_of(fields::part(b, at, dcm::SIZE));
+            Span {
+                first: index,
+                count: r.count,
+                takes: r.count,
+            }
+        }
+    }
+}
+
 // Whether x is one of the n numbers from `first` on.
 fn covered(first: u32, n: u8, x: u32) -> bool
     ensures { λ r. ⌜ r ≡ covers first n x ⌝ }
@@ -93,11 +111,82 @@ fn covered(first: u32, n: u8, x: u32) -> bool
     x - first < n as u32
 }
 
-// ---- carriers
+// Over the record at a place, which is there whole, and its descriptors.
+fn past_record(t: Table, b: &[u8], at: usize, included: u8) -> Skip
+    requires { ⌜ extent (layoutOf t included .block) (from (now b) at) ≤ length (now b) - at ⌝ }
+    ensures { λ r. ⌜ Stands (now (b .entry)) r (counted (layoutOf t included .described) (from (now (b .entry)) (at + extent (layoutOf t included .block) (from (now (b .entry)) at)))) ⌝ }
+{
+    match t {
+        Table::Cds => fields::past_counted(b, at + cds::SIZE, true),
+        Table::Mms => fields::past_counted(b, at + mms::SIZE, true),
+        Table::Vcm => fields::past_counted(b, at + vcm::SIZE, included == 1),
+        Table::Dcm => fields::past_counted(b, at + dcm::SIZE, false),
+    }
+}
+
+// ---- the search
+
+// The entry of a record: one more than its place in the store, and above 32 bits its index.
+fn entry_at(place: usize, index: u32) -> u64
+    requires { ⌜ place < 2147483648 ⌝ }
+    ensures { λ x. ⌜ x ≡ 1 + place + index * 2 ^ 32 ⌝ }
+{
+    1 + place as u64 + index as u64 * 4294967296
+}
+
+// The entry of the first record that goes by a number, or 0.
+pub fn find_entry(s: State, store: &[u8], t: Table, number: u16) -> u64
+    requires { ⌜ Live s (now store) t ⌝ }
+    ensures { λ r. ⌜ r ≡ entryOf s (now (store .entry)) t number ⌝ }
+{
+    let h = state::holding_of(s, t);
+    let sections = h.live.last as u16 + 1;
+    for i in 0..sections {
+        let start = state::place_of(s, t, h.half, i as u8);
+        let b = live_bytes(s, store, t, i as u8);
+        let walk = outline_in(tables::outline_of(t, b));
+        let mut at = walk.at;
+        let mut index = walk.first as u32;
+        for k in 0..walk.count {
+            let Skip::At(next) = past_record(t, b, at, walk.included) else {
+                break;
+            };
+            let span = span_of(t, b, at, index);
+            if covered(span.first, span.count, number as u32) {
+                return entry_at(start + at, index);
+            }
+            index = index + span.takes as u32;
+            at = next;
+        }
+    }
+    0
+}
+
+// ---- what the record of an entry says
 
 pub enum CarrierFound {
     At(u32),
     Nothing,
+}
+
+pub enum ModeFound {
+    At(Mode),
+    Nothing,
+}
+
+pub enum ChannelFound {
+    At(Channel),
+    Nothing,
+}
+
+// Where the record of an entry stands in the store.
+fn place_in(entry: u64) -> usize
+    ensures { λ x. ⌜ x ≡ (entry - 1) % 4294967296 ⌝ }
+{
+    if entry == 0 {
+        return 0;
+    }
+    ((entry - 1) % 4294967296) as usize
 }
 
 // A unit of 0 is 10 kHz, 1 is 125 kHz.
@@ -130,120 +219,45 @@ fn beyond(first: u32, index: u8) -> u8
     index - first as u8
 }
 
-// The frequency in kHz of the first carrier of an index, as its record says it: whether the tuner reaches it is judged by `tuner`.
-pub fn find_carrier(s: State, store: &[u8], index: u8) -> CarrierFound
-    requires { ⌜ Live s (now store) table.Cds ⌝ }
-    ensures { λ r. ⌜ r ≡ carrierFound index (first (isCarrier index) (liveRecords carriersIn s (now (store .entry)) table.Cds)) ⌝ }
+// The frequency in kHz of the carrier of an index, as its record says it: whether the tuner reaches it is judged by `tuner`.
+pub fn carrier_at(store: &[u8], entry: u64, index: u8) -> CarrierFound
+    ensures { λ r. ⌜ r ≡ carrierFound index (recordNamed table.Cds (now (store .entry)) entry) ⌝ }
 {
-    let sections = s.tables.cds.live.last + 1;
-    for i in 0..sections {
-        let b = live_bytes(s, store, Table::Cds, i);
-        let walk = walk_of(Table::Cds, b);
-        let mut at = walk.at;
-        let mut number = walk.index as u32;
-        for k in 0..walk.count {
-            let Skip::At(next) = fields::past_counted(b, at + cds::SIZE, true) else {
-                break;
-            };
-            let c = cds::carriers_of(&b[at..at + cds::SIZE]);
-            let takes = c.count;
-            if covered(number, takes, index as u32) {
-                return CarrierFound::At(carrier_khz(c, beyond(number, index)));
-            }
-            number = number + takes as u32;
-            at = next;
-        }
+    if entry == 0 {
+        return CarrierFound::Nothing;
     }
-    CarrierFound::Nothing
+    let c = cds::carriers_of(fields::part(store, place_in(entry), cds::SIZE));
+    let first = ((entry - 1) / 4294967296) as u32;
+    CarrierFound::At(carrier_khz(c, beyond(first, index)))
 }
 
-// ---- modes
-
-pub enum ModeFound {
-    At(Mode),
-    Nothing,
-}
-
-// The first mode of an index.
-pub fn find_mode(s: State, store: &[u8], index: u8) -> ModeFound
-    requires { ⌜ Live s (now store) table.Mms ⌝ }
-    ensures { λ r. ⌜ r ≡ modeFound (first (isMode index) (liveRecords modesIn s (now (store .entry)) table.Mms)) ⌝ }
+// The mode.
+pub fn mode_at(store: &[u8], entry: u64) -> ModeFound
+    ensures { λ r. ⌜ r ≡ modeFound (recordNamed table.Mms (now (store .entry)) entry) ⌝ }
 {
-    let sections = s.tables.mms.live.last + 1;
-    for i in 0..sections {
-        let b = live_bytes(s, store, Table::Mms, i);
-        let walk = walk_of(Table::Mms, b);
-        let mut at = walk.at;
-        let mut number = walk.index as u32;
-        for k in 0..walk.count {
-            let Skip::At(next) = fields::past_counted(b, at + mms::SIZE, true) else {
-                break;
-            };
-            if number == index as u32 {
-                return ModeFound::At(mms::mode_of(&b[at..at + mms::SIZE]));
-            }
-            number = number + 1;
-            at = next;
-        }
+    if entry == 0 {
+        return ModeFound::Nothing;
     }
-    ModeFound::Nothing
+    ModeFound::At(mms::mode_of(fields::part(store, place_in(entry), mms::SIZE)))
 }
 
-// ---- channels
-
-pub enum ChannelFound {
-    At(Channel),
-    Nothing,
-}
-
-// The first record of a channel.
-pub fn find_channel(s: State, store: &[u8], number: u16) -> ChannelFound
-    requires { ⌜ Live s (now store) table.Vcm ⌝ }
-    ensures { λ r. ⌜ r ≡ channelFound (first (isChannel number) (liveRecords channelsIn s (now (store .entry)) table.Vcm)) ⌝ }
+// The channel record.
+pub fn channel_at(store: &[u8], entry: u64) -> ChannelFound
+    ensures { λ r. ⌜ r ≡ channelFound (recordNamed table.Vcm (now (store .entry)) entry) ⌝ }
 {
-    let sections = s.tables.vcm.live.last + 1;
-    for i in 0..sections {
-        let b = live_bytes(s, store, Table::Vcm, i);
-        let walk = walk_of(Table::Vcm, b);
-        let mut at = walk.at;
-        for k in 0..walk.count {
-            let Skip::At(next) = fields::past_counted(b, at + vcm::SIZE, walk.included == 1) else {
-                break;
-            };
-            let r = &b[at..at + vcm::SIZE];
-            if vcm::number_of(r) == number {
-                return ChannelFound::At(vcm::channel_of(r));
-            }
-            at = next;
-        }
+    if entry == 0 {
+        return ChannelFound::Nothing;
     }
-    ChannelFound::Nothing
+    ChannelFound::At(vcm::channel_of(fields::part(store, place_in(entry), vcm::SIZE)))
 }
 
-// ---- ranges
-
-// Whether a channel is defined: its first covering range has range-defined 1.
-pub fn is_defined(s: State, store: &[u8], number: u16) -> bool
-    requires { ⌜ Live s (now store) table.Dcm ⌝ }
-    ensures { λ r. ⌜ r ≡ defined (liveRecords rangesIn s (now (store .entry)) table.Dcm) number ⌝ }
+// Whether the range that was found defines its channels.
+pub fn defined_at(store: &[u8], entry: u64) -> bool
+    ensures { λ r. ⌜ r ≡ definedBy (recordNamed table.Dcm (now (store .entry)) entry) ⌝ }
 {
-    let sections = s.tables.dcm.live.last + 1;
-    for i in 0..sections {
-        let b = live_bytes(s, store, Table::Dcm, i);
-        let walk = walk_of(Table::Dcm, b);
-        let mut at = walk.at;
-        let mut start = walk.index as u32;
-        for k in 0..walk.count {
-            let Skip::At(next) = fields::past_counted(b, at + dcm::SIZE, false) else {
-                break;
-            };
-            let r = dcm::range_of(&b[at..at + dcm::SIZE]);
-            if covered(start, r.count, number as u32) {
-                return r.defined == 1;
-            }
-            start = start + r.count as u32;
-            at = next;
-        }
+    if entry == 0 {
+        return false;
     }
-    false
+    let r = dcm::range_of(fields::part(store, place_in(entry), dcm::SIZE));
+    r.defined == 1
 }

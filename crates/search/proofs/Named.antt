@@ -1,0 +1,137 @@
+-- What an entry names: the record at its place in the store, with its index; so the entry of a number names the first live record that goes by it.
+use Prim.Native.Nat.{ℕ, zero, suc, _+_, _-_, _*_, _/_, _%_, _^_, _≤_, _<_}
+use native.Mathlib.Omega.{arith}
+use mathlib.Core.Path.{_≡_, refl, sym, ap, subst, _∙_}
+use mathlib.Core.Bool.{Bool, true, false, cond}
+use mathlib.Core.List.{List, [], _∷_, _++_}
+use mathlib.Core.Option.{none, some}
+use lib.ListN.{length, take, drop, length-take}
+use lib.Seq.{drop-drop}
+use Rattle.rules.specs.Gathering as Gathering
+use Rattle.rules.specs.Bytes.{got, from}
+use Rattle.rules.specs.Layout.{Numbered, numbered, extent, after, records}
+use Rattle.rules.specs.Section.{lengthOf, withoutCrc}
+use Rattle.rules.specs.Holding.{sectionAt, liveAt}
+use Rattle.rules.specs.Search.{first, sections}
+use Rattle.rules.specs.Tuning.{liveCount, liveSection, liveRecords}
+use Rattle.rules.specs.declared.Table.{Table}
+use Rattle.rules.specs.declared.State.{State}
+use Rattle.rules.proofs.Asking.{part-front}
+use Rattle.rules.proofs.Places.{from-length, entry-place}
+use Rattle.rules.proofs.Search.{more}
+use Rattle.fields.specs.Outline.{layoutOf}
+use Rattle.fields.proofs.Outlines.{laid}
+use Rattle.search.specs.Entries.{Live, RecordOf, recordsOf, testOf, Standing, ofGot, standing, standingIn, entryNumber, entryOf, recordNamed}
+use Rattle.search.proofs.Sections.{section-short, low-live, live-walk}
+
+-- ---- the record of an entry
+
+pub no-entry : (t : Table) (store : List ℕ) (entry : ℕ) → entry ≡ 0 → recordNamed t store entry ≡ none
+unfolding recordNamed
+no-entry t store entry e = rw e
+
+pub an-entry : (t : Table) (store : List ℕ) (entry : ℕ) → (entry ≡ 0 → ⊥)
+    → recordNamed t store entry
+    ≡ some (record { index = (entry - 1) / 2 ^ 32; what = layoutOf t 0 .block .look (take (extent (layoutOf t 0 .block) (from store ((entry - 1) % 2 ^ 32))) (from store ((entry - 1) % 2 ^ 32))) })
+unfolding recordNamed
+an-entry t store zero h = absurd (h refl)
+an-entry t store (suc n) h = let e : suc n - 1 ≡ n = omega arith in rw e
+
+-- bytes at a place of a live section stand in the store, that much behind the section's place
+module _ (store : List ℕ) (start : ℕ) where
+  section-part : (at n : ℕ) → at + n ≤ length (withoutCrc (sectionAt store start))
+      → take n (from (withoutCrc (sectionAt store start)) at) ≡ take n (from store (start + at))
+  unfolding withoutCrc Gathering.sectionAt from
+  section-part at n h =
+      let place : List ℕ = take 1024 (drop start store) in
+      let section : List ℕ = take (3 + lengthOf place) place in
+      let inner : at + n ≤ length section = omega (arith, length-take (length section - 4) section) in
+      let whole : at + n ≤ length place = omega (arith, length-take (3 + lengthOf place) place) in
+      part-front (length section - 4) section at n h
+      ∙ part-front (3 + lengthOf place) place at n inner
+      ∙ part-front 1024 (drop start store) at n whole
+      ∙ ap (take n) (drop-drop at start store)
+
+module _ (t : Table) (store : List ℕ) where
+  abbrev Names : (at index : ℕ) → Numbered (RecordOf t) → Type 0
+  Names at index r = recordNamed t store (1 + at + index * 2 ^ 32) ≡ some r
+
+  -- the entry of a record in a live section names it
+  names-it : (included index start : ℕ) (b : List ℕ) (at : ℕ) → b ≡ withoutCrc (sectionAt store start)
+      → extent (layoutOf t included .block) (from b at) ≤ length b - at → start + at < 2 ^ 32
+      → Names (start + at) index (numbered (layoutOf t included) index (from b at))
+  unfolding numbered
+  names-it included index start b at e h low32 =
+      let l = layoutOf t 0 .block in
+      let n = extent l (from b at) in
+      let entry = 1 + (start + at) + index * 2 ^ 32 in
+      let high : (entry - 1) / 2 ^ 32 ≡ index = omega arith in
+      let low : (entry - 1) % 2 ^ 32 ≡ start + at = omega arith in
+      let k : at + n ≤ length (withoutCrc (sectionAt store start)) = omega (arith, laid t .size included (from b at), laid t .some (from b at), ap length e) in
+      let same : (m : ℕ) → m ≤ n → take m (from store (start + at)) ≡ take m (from b at) =
+      λ m f. sym (section-part store start at m (omega arith)) ∙ ap (λ (x : List ℕ). take m (from x at)) (sym e) in
+      let long : extent l (from store (start + at)) ≡ n = ap (λ (r : List ℕ). l .size + l .more r) (same (l .size) (omega arith)) in
+      let part : take (extent l (from store (start + at))) (from store (start + at)) ≡ take n (from b at) =
+      ap (λ (m : ℕ). take m (from store (start + at))) long ∙ same n (omega arith) in
+      an-entry t store entry (λ z. omega arith) ∙ rw (high, low, part) (ap some (laid t .says included index (from b at)))
+
+  -- ---- records with their places, and without them
+
+  abbrev Alike : List (Standing (RecordOf t)) → List (Numbered (RecordOf t)) → Type 0
+  Alike [] [] = Unit
+  Alike [] (r ∷ rs) = ⊥
+  Alike (y ∷ ys) [] = ⊥
+  Alike (y ∷ ys) (r ∷ rs) = Names (y .at) (y .row .index) r × (y .row ≡ r) × Alike ys rs
+
+  alike-append : (ys : List (Standing (RecordOf t))) (rs : List (Numbered (RecordOf t))) (zs : List (Standing (RecordOf t))) (qs : List (Numbered (RecordOf t))) → Alike ys rs → Alike zs qs → Alike (ys ++ zs) (rs ++ qs)
+  alike-append [] [] zs qs a b = b
+  alike-append (y ∷ ys) (r ∷ rs) zs qs a b = (a .0, a .1, alike-append ys rs zs qs (a .2) b)
+
+  -- the entry of the first match names the first match
+  alike-first : (x : ℕ) (ys : List (Standing (RecordOf t))) (rs : List (Numbered (RecordOf t))) → Alike ys rs → recordNamed t store (entryNumber (first (λ y. testOf t x (y .row)) ys)) ≡ first (testOf t x) rs
+  unfolding first entryNumber
+  alike-first x [] [] a = no-entry t store 0 refl
+  alike-first x (y ∷ ys) (r ∷ rs) (n, e, a) =
+      go (testOf t x (y .row)) (alike-first x ys rs a) ∙ ap (λ (z : Numbered (RecordOf t)). cond (testOf t x z) (some r) (first (testOf t x) rs)) e
+    where
+      go : (b : Bool) → recordNamed t store (entryNumber (first (λ y. testOf t x (y .row)) ys)) ≡ first (testOf t x) rs
+          → recordNamed t store (entryNumber (cond b (some y) (first (λ y. testOf t x (y .row)) ys))) ≡ cond b (some r) (first (testOf t x) rs)
+      go true q = n
+      go false q = q
+
+  -- the records of a live section
+  alike-standing : (included start : ℕ) (b : List ℕ) → b ≡ withoutCrc (sectionAt store start) → start < 2 ^ 30 → (n index at : ℕ) (rs : List (Numbered (RecordOf t))) (rest : List ℕ)
+      → records (layoutOf t included) n index (from b at) ≡ got rs rest → Alike (standing (layoutOf t included) n index (start + length b) (from b at)) rs
+  unfolding records standing ofGot after numbered
+  alike-standing included start b e low zero index at rs rest q = let z : rs ≡ [] = cc in subst (λ (l : List (Numbered (RecordOf t))). Alike [] l) (sym z) tt
+  alike-standing included start b e low (suc n) index at rs rest q =
+      let l = layoutOf t included in
+      let o = more l n index (from b at) rs rest q in
+      let place = entry-place l index b at _ _ (o .one) in
+      let fits : extent (l .block) (from b at) ≤ length b - at = rw (← from-length b at) (o .whole .fits) in
+      let inside : at < length b = omega (arith, fits, laid t .size included (from b at), laid t .some (from b at)) in
+      let here : start + length b - length (from b at) ≡ start + at = omega (arith, from-length b at, inside) in
+      let next = index + l .takes (l .block .look (take (extent (l .block) (from b at)) (from b at))) in
+      let others = alike-standing included start b e low n next (place .0) (o .others) rest (rw (← place .1) (o .more)) in
+      let short = section-short store start in
+      rw (o .is, o .one, here, place .1) (names-it included index start b at e fits (omega (arith, short, ap length e, inside, low)), refl, others)
+
+-- ---- the entry of a number
+
+module _ (s : State) (store : List ℕ) (t : Table) (live : Live s store t) where
+  alike-section : (i : ℕ) → i < liveCount s t → Alike t store (standingIn s store t i) (liveSection (recordsOf t) s store t i)
+  unfolding standingIn
+  alike-section i h =
+      let k = live-walk s store t live i h _ refl _ refl in
+      alike-standing t store _ (liveAt s t i) _ refl (low-live s store t live i h) _ _ _ _ (k .0) (k .1)
+
+  alike-sections : (m i : ℕ) → liveCount s t ≡ m + i → Alike t store (sections (standingIn s store t) m i) (sections (liveSection (recordsOf t) s store t) m i)
+  unfolding sections
+  alike-sections zero i e = tt
+  alike-sections (suc m) i e =
+      alike-append t store (standingIn s store t i) (liveSection (recordsOf t) s store t i) (sections (standingIn s store t) m (i + 1)) (sections (liveSection (recordsOf t) s store t) m (i + 1))
+      (alike-section i (omega (arith, e))) (alike-sections m (i + 1) (omega (arith, e)))
+
+  pub entry-names : (x : ℕ) → recordNamed t store (entryOf s store t x) ≡ first (testOf t x) (liveRecords (recordsOf t) s store t)
+  unfolding entryOf liveRecords
+  entry-names x = alike-first t store x _ _ (alike-sections (liveCount s t) 0 (omega arith))
