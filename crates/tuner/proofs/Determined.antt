@@ -10,7 +10,6 @@ use prog.Wp.{Heap}
 use Rattle.rules.proofs.Determined.{Determined, determined-by, first-says}
 use Rattle.tuner.proofs.check
 use Rattle.tuner.proofs.look_up
-use Rattle.tuner.proofs.look_up_listed
 use Rattle.tuner.proofs.tune
 
 module _ {M : Type 1} (𝓤 : URA M) (H : Heap 𝓤) (A : Atoms 𝓤) (mem : Memory → SProp 𝓤) (run : Routine → Fun 𝓤) where
@@ -19,9 +18,6 @@ module _ {M : Type 1} (𝓤 : URA M) (H : Heap 𝓤) (A : Atoms 𝓤) (mem : Mem
 
   pub look_up-determined : Determined 𝓤 {T = look_up.ended} (look_up.clauses 𝓤 H A mem run) (λ κs r e. r)
   look_up-determined = determined-by 𝓤 {T = look_up.ended} (look_up.clauses 𝓤 H A mem run) _ _ (λ κs a g r e. id⊢ 𝓤 _)
-
-  pub look_up_listed-determined : Determined 𝓤 {T = look_up_listed.ended} (look_up_listed.clauses 𝓤 H A mem run) (λ κs r e. r)
-  look_up_listed-determined = determined-by 𝓤 {T = look_up_listed.ended} (look_up_listed.clauses 𝓤 H A mem run) _ _ (λ κs a g r e. id⊢ 𝓤 _)
 
   pub tune-determined : Determined 𝓤 {T = tune.ended} (tune.clauses 𝓤 H A mem run) (λ κs r e. r)
   tune-determined = determined-by 𝓤 {T = tune.ended} (tune.clauses 𝓤 H A mem run) _ _ (λ κs a g r e. first-says 𝓤 (id⊢ 𝓤 _) (id⊢ 𝓤 _))

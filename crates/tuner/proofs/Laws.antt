@@ -8,14 +8,16 @@ use lib.ListN.{length}
 use lib.Dec.{leb}
 use borrow.Author.Tests.{le-leb, lt-leb, leb-true, ne-eqb, not-true}
 use Rattle.rules.specs.Holding.{limitOf, listed, storeSize, holdingOf, wellFormed}
-use Rattle.rules.specs.Tuning.{neededTables, tableLive, allLive, tableReads, allRead, plant, needs, lookUp, tune}
+use Rattle.rules.specs.Search.{first}
+use Rattle.rules.specs.Tuning.{liveRecords, neededTables, tableLive, allLive, tableReads, allRead, plant, needs, lookUp, tune}
 use Rattle.rules.specs.declared.Table.{Table}
 use Rattle.rules.specs.declared.State.{State}
 use Rattle.rules.specs.declared.Tuned.{Tuned}
 use Rattle.rules.specs.declared.Tuned.the-variants as Tuned
 use Rattle.rules.proofs.Taken.{differ}
-use Rattle.rules.proofs.States.{each-at, each-no}
-use Rattle.search.specs.Live.{Live}
+use Rattle.rules.proofs.States.{table-formed, each-at, each-no}
+use Rattle.search.specs.Entries.{Live, recordsOf, testOf, entryOf, recordNamed}
+use Rattle.search.proofs.Named.{entry-names}
 use Rattle.tuner.specs.Checks.{checks}
 
 -- ---- what the checks leave
@@ -51,7 +53,11 @@ passed s store e =
 -- every table that tuning needs can be searched
 pub searchable : (s : State) (store : List ℕ) → checks s store ≡ 0 → (t : Table) → listed neededTables t ≡ true → Live s store t
 unfolding allRead
-searchable s store e t h = record { few = few s (passed s store e .good) .few t; reads = each-at neededTables (tableReads s store) (passed s store e .reads) t h }
+searchable s store e t h = record { formed = table-formed s t (passed s store e .good); reads = each-at neededTables (tableReads s store) (passed s store e .reads) t h }
+
+-- the entry of a number names what the plant has under it
+pub found-by : (s : State) (store : List ℕ) → checks s store ≡ 0 → (t : Table) → listed neededTables t ≡ true → {entry : ℕ} (x : ℕ) → entry ≡ entryOf s store t x → recordNamed t store entry ≡ first (testOf t x) (liveRecords (recordsOf t) s store t)
+found-by s store e t h x n = ap (recordNamed t store) n ∙ entry-names s store t (searchable s store e t h) x
 
 -- ---- the checks, one by one
 

@@ -16,7 +16,7 @@ use Rattle.rules.specs.declared.Signal.{Signal}
 use Rattle.rules.specs.declared.Signal.the-variants as Signal
 use Rattle.rules.specs.declared.Tuned.{Tuned}
 use Rattle.rules.specs.declared.Tuned.the-variants as Tuned
-use Rattle.search.specs.Live.{carrierFound, modeFound, channelFound}
+use Rattle.search.specs.Found.{carrierFound, modeFound, channelFound}
 use Rattle.search.specs.declared.CarrierFound.the-variants as carrierAt
 use Rattle.search.specs.declared.ModeFound.the-variants as modeAt
 use Rattle.search.specs.declared.ChannelFound.the-variants as channelAt

@@ -1,14 +1,16 @@
 // From number to tuner: what a channel number is tuned to, or the number of the refusal. The checks that go for every channel (1,
-// 2, 15 and 16) are made by `check`; where they passed `look_up` and `look_up_listed` look channels up without making them
-// again; `tune` is check and look-up.
+// 2, 15 and 16) are made by `check`; where they passed `look_up` looks channels up without making them again; `tune` is check and
+// look-up.
 ghost use mathlib.Core.Path.{_≡_};
-ghost use Rattle.rules.specs.Tuning.{allLive, allRead, Plant, plant, inReach, tuneSignal, tuneKhz, tuneCarrier, tuneChannel};
+ghost use Rattle.rules.specs.Search.{first};
+ghost use Rattle.rules.specs.Tuning.{allLive, allRead, plant, isCarrier, isMode, isChannel, defined, inReach, tuneSignal, tuneKhz, tuneCarrier, tuneChannel};
 ghost use Rattle.rules.specs.Tuning as rule;
 ghost use Rattle.rules.specs.Said.{tunedSaid, tuneSaid};
 ghost use Rattle.rules.specs.declared.Signal.the-variants as signal;
 ghost use Rattle.rules.specs.declared.Table.the-variants as table;
-ghost use Rattle.tuner.specs.Checks.{checks};
-ghost use Rattle.tuner.specs.Found.{modeReference, CarrierIn, ModeIn, applicationOf, Listed, AllListed};
+ghost use Rattle.search.specs.Found.{carrierFound, modeFound, channelFound};
+ghost use Rattle.search.specs.Listing.{Lists};
+ghost use Rattle.tuner.specs.Checks.{checks, AllListed, applicationOf};
 use rules::Channel;
 use rules::Signal;
 use rules::State;
@@ -73,7 +75,7 @@ pub fn check(state: State, store: &[u8]) -> u8
     0
 }
 
-// ---- a channel record: 19, 20 and 21
+// ---- what the tuner is given
 
 // What the tuner reaches: 54,000 to 1,002,000 kHz.
 fn in_reach(khz: u32) -> bool
@@ -95,13 +97,79 @@ fn hidden(c: Channel) -> u8
     0
 }
 
-// By what was found under a mode reference.
-fn tune_digital(c: Channel, khz: u32, program: u16, reference: u8, found: ModeFound) -> Tuned
-    ensures { λ x. ⌜ ((p : Plant) → ModeIn p reference found → x ≡ tuneSignal p c khz (signal.Digital program reference)) ⌝ }
+// An application channel needs no carrier.
+fn application(c: Channel) -> Tuned
+    ensures { λ x. ⌜ x ≡ applicationOf c ⌝ }
+{
+    Tuned::Application {
+        hidden: hidden(c),
+        path: c.path,
+        number: c.source,
+    }
+}
+
+// ---- what is found under a number: by a listing as far as it goes, else by a search
+
+fn is_defined(s: State, store: &[u8], ranges: &[u64], number: u16) -> bool
+    requires { ⌜ checks s (now store) ≡ 0 ⌝ }
+    requires { ⌜ Lists s (now store) table.Dcm (now ranges) ⌝ }
+    ensures { λ x. ⌜ x ≡ defined (plant s (now (store .entry)) .ranges) number ⌝ }
+{
+    search::defined_at(
+        store,
+        listing::entry_of(s, store, Table::Dcm, ranges, number),
+    )
+}
+
+fn find_channel(s: State, store: &[u8], channels: &[u64], number: u16) -> ChannelFound
+    requires { ⌜ checks s (now store) ≡ 0 ⌝ }
+    requires { ⌜ Lists s (now store) table.Vcm (now channels) ⌝ }
+    ensures { λ x. ⌜ x ≡ channelFound (first (isChannel number) (plant s (now (store .entry)) .channels)) ⌝ }
+{
+    search::channel_at(
+        store,
+        listing::entry_of(s, store, Table::Vcm, channels, number),
+    )
+}
+
+fn find_carrier(s: State, store: &[u8], carriers: &[u64], index: u8) -> CarrierFound
+    requires { ⌜ checks s (now store) ≡ 0 ⌝ }
+    requires { ⌜ Lists s (now store) table.Cds (now carriers) ⌝ }
+    ensures { λ x. ⌜ x ≡ carrierFound index (first (isCarrier index) (plant s (now (store .entry)) .carriers)) ⌝ }
+{
+    let entry = listing::entry_of(s, store, Table::Cds, carriers, index as u16);
+    search::carrier_at(store, entry, index)
+}
+
+fn find_mode(s: State, store: &[u8], modes: &[u64], index: u8) -> ModeFound
+    requires { ⌜ checks s (now store) ≡ 0 ⌝ }
+    requires { ⌜ Lists s (now store) table.Mms (now modes) ⌝ }
+    ensures { λ x. ⌜ x ≡ modeFound (first (isMode index) (plant s (now (store .entry)) .modes)) ⌝ }
+{
+    let entry = listing::entry_of(s, store, Table::Mms, modes, index as u16);
+    search::mode_at(store, entry)
+}
+
+// ---- a channel record: 19, 20 and 21
+
+// Reference 0 is not looked for.
+fn tune_digital(
+    s: State,
+    store: &[u8],
+    modes: &[u64],
+    c: Channel,
+    khz: u32,
+    program: u16,
+    reference: u8,
+) -> Tuned
+    requires { ⌜ checks s (now store) ≡ 0 ⌝ }
+    requires { ⌜ Lists s (now store) table.Mms (now modes) ⌝ }
+    ensures { λ x. ⌜ x ≡ tuneSignal (plant s (now (store .entry))) c khz (signal.Digital program reference) ⌝ }
 {
     if reference == 0 {
         return Tuned::Refused(21);
     }
+    let found = find_mode(s, store, modes, reference);
     match found {
         ModeFound::Nothing => Tuned::Refused(21),
         ModeFound::At(mode) => Tuned::Digital {
@@ -115,16 +183,23 @@ fn tune_digital(c: Channel, khz: u32, program: u16, reference: u8, found: ModeFo
 }
 
 // On a frequency: nothing out of reach is handed to the tuner.
-fn tune_khz(c: Channel, khz: u32, mode: ModeFound) -> Tuned
-    ensures { λ x. ⌜ ((p : Plant) → ModeIn p (modeReference (c .signal)) mode → x ≡ tuneKhz p c khz) ⌝ }
+fn tune_khz(s: State, store: &[u8], modes: &[u64], c: Channel, khz: u32) -> Tuned
+    requires { ⌜ checks s (now store) ≡ 0 ⌝ }
+    requires { ⌜ Lists s (now store) table.Mms (now modes) ⌝ }
+    ensures { λ x. ⌜ x ≡ tuneKhz (plant s (now (store .entry))) c khz ⌝ }
 {
     if in_reach(khz) {
         let signal = c.signal;
         return match signal {
-            Signal::Digital {
+            Signal::Digital { program, mode } => tune_digital(
+                s,
+                store,
+                modes,
+                c,
+                khz,
                 program,
-                mode: reference,
-            } => tune_digital(c, khz, program, reference, mode),
+                mode,
+            ),
             Signal::Analogue {
                 scrambled,
                 standard,
@@ -140,106 +215,40 @@ fn tune_khz(c: Channel, khz: u32, mode: ModeFound) -> Tuned
     Tuned::Refused(20)
 }
 
-// By what was found under the references of a channel.
-fn tune_found(c: Channel, carrier: CarrierFound, mode: ModeFound) -> Tuned
-    ensures { λ x. ⌜ ((p : Plant) → CarrierIn p (c .carrier) carrier → ModeIn p (modeReference (c .signal)) mode → x ≡ tuneCarrier p c) ⌝ }
+// On its carrier; reference 0 is not looked for.
+fn tune_carrier(s: State, store: &[u8], carriers: &[u64], modes: &[u64], c: Channel) -> Tuned
+    requires { ⌜ checks s (now store) ≡ 0 ⌝ }
+    requires { ⌜ Lists s (now store) table.Cds (now carriers) ⌝ }
+    requires { ⌜ Lists s (now store) table.Mms (now modes) ⌝ }
+    ensures { λ x. ⌜ x ≡ tuneCarrier (plant s (now (store .entry))) c ⌝ }
 {
     if c.carrier == 0 {
         return Tuned::Refused(19);
     }
-    match carrier {
+    let found = find_carrier(s, store, carriers, c.carrier);
+    match found {
         CarrierFound::Nothing => Tuned::Refused(19),
-        CarrierFound::At(khz) => tune_khz(c, khz, mode),
+        CarrierFound::At(khz) => tune_khz(s, store, modes, c, khz),
     }
 }
 
-// The mode that a channel refers to; an analogue one refers to none.
-fn mode_reference(c: Channel) -> u8
-    ensures { λ x. ⌜ x ≡ modeReference (c .signal) ⌝ }
-{
-    let signal = c.signal;
-    match signal {
-        Signal::Digital { program: _, mode } => mode,
-        Signal::Analogue {
-            scrambled: _,
-            standard: _,
-        } => 0,
-    }
-}
-
-// An application channel needs no carrier.
-fn application(c: Channel) -> Tuned
-    ensures { λ x. ⌜ x ≡ applicationOf c ⌝ }
-{
-    Tuned::Application {
-        hidden: hidden(c),
-        path: c.path,
-        number: c.source,
-    }
-}
-
-// ---- a channel, by searching the tables
-
-// Reference 0 is not looked for.
-fn search_mode(s: State, store: &[u8], reference: u8) -> ModeFound
+fn tune_channel(s: State, store: &[u8], carriers: &[u64], modes: &[u64], c: Channel) -> Tuned
     requires { ⌜ checks s (now store) ≡ 0 ⌝ }
-    ensures { λ x. ⌜ ModeIn (plant s (now (store .entry))) reference x ⌝ }
-{
-    if reference == 0 {
-        return ModeFound::Nothing;
-    }
-    search::find_mode(s, store, reference)
-}
-
-fn tune_channel(s: State, store: &[u8], c: Channel) -> Tuned
-    requires { ⌜ checks s (now store) ≡ 0 ⌝ }
+    requires { ⌜ Lists s (now store) table.Cds (now carriers) ⌝ }
+    requires { ⌜ Lists s (now store) table.Mms (now modes) ⌝ }
     ensures { λ x. ⌜ x ≡ tuneChannel (plant s (now (store .entry))) c ⌝ }
 {
     if c.application == 1 {
         return application(c);
     }
-    let carrier = search::find_carrier(s, store, c.carrier);
-    let mode = search_mode(s, store, mode_reference(c));
-    tune_found(c, carrier, mode)
-}
-
-// ---- a channel, by listings of the tables
-
-fn tune_listed(s: State, store: &[u8], carriers: &[u64], modes: &[u64], c: Channel) -> Tuned
-    requires { ⌜ Listed s (now store) table.Cds 256 (now carriers) ⌝ }
-    requires { ⌜ Listed s (now store) table.Mms 256 (now modes) ⌝ }
-    ensures { λ x. ⌜ x ≡ tuneChannel (plant s (now (store .entry))) c ⌝ }
-{
-    if c.application == 1 {
-        return application(c);
-    }
-    let carrier = listing::listed_carrier(store, carriers, c.carrier);
-    let mode = listing::listed_mode(store, modes, mode_reference(c));
-    tune_found(c, carrier, mode)
+    tune_carrier(s, store, carriers, modes, c)
 }
 
 // ---- a channel number
 
-// What a channel is tuned to, where the checks have passed: 14, then 17 to 21.
-pub fn look_up(state: State, store: &[u8], channel: u16) -> Tuned
-    requires { ⌜ checks state (now store) ≡ 0 ⌝ }
-    ensures { λ x. ⌜ x ≡ rule.tune state (now (store .entry)) channel ⌝ }
-{
-    if 4095 < channel {
-        return Tuned::Refused(14);
-    }
-    if search::is_defined(state, store, channel) {
-        let found = search::find_channel(state, store, channel);
-        return match found {
-            ChannelFound::Nothing => Tuned::Refused(18),
-            ChannelFound::At(c) => tune_channel(state, store, c),
-        };
-    }
-    Tuned::Refused(17)
-}
-
-// The same by listings of the four tables, for those who ask every channel. The state is there for what is promised.
-pub fn look_up_listed(
+// What a channel is tuned to, where the checks have passed: 14, then 17 to 21. Who asks every channel lends listings of the four
+// tables; who asks one lends none, and the tables are searched.
+pub fn look_up(
     state: State,
     store: &[u8],
     ranges: &[u64],
@@ -255,11 +264,11 @@ pub fn look_up_listed(
     if 4095 < channel {
         return Tuned::Refused(14);
     }
-    if listing::listed_defined(store, ranges, channel) {
-        let found = listing::listed_channel(store, channels, channel);
+    if is_defined(state, store, ranges, channel) {
+        let found = find_channel(state, store, channels, channel);
         return match found {
             ChannelFound::Nothing => Tuned::Refused(18),
-            ChannelFound::At(c) => tune_listed(state, store, carriers, modes, c),
+            ChannelFound::At(c) => tune_channel(state, store, carriers, modes, c),
         };
     }
     Tuned::Refused(17)
@@ -272,7 +281,8 @@ pub fn tune(state: State, store: &[u8], channel: u16) -> Tuned
 {
     let refusal = check(state, store);
     if refusal == 0 {
-        return look_up(state, store, channel);
+        let none = [0u64; 0];
+        return look_up(state, store, &none, &none, &none, &none, channel);
     }
     if refusal < 14 {
         return Tuned::Refused(refusal);

@@ -1,5 +1,6 @@
 -- The first table that does not read right decides; where the others do, the last one does.
 use mathlib.Core.Path.{refl}
+use borrow.Author.Needs.{needs}
 use borrow.Author.Tests.{not-false}
 use Rattle.rules.specs.declared.Table.the-variants.{Cds, Mms, Vcm, Dcm}
 use Rattle.rules.specs.Tuning.{allRead}
@@ -8,26 +9,14 @@ use Rattle.tuner.proofs.Laws.{one-unread}
 use Rattle.tuner.proofs.all_read.Statement.{statement}
 use Rattle.tuner.proofs.all_read.Tie as tie
 
-table-reads-requires : tie.Need-table-reads-requires
-table-reads-requires c κs = c .before .pre .few Cds
-
 returns : tie.Need-returns
 returns c = one-unread _ _ Cds refl (c .before .table-reads .ensures) (c .if1 .taken)
-
-table-reads-requires-2 : tie.Need-table-reads-requires-2
-table-reads-requires-2 c κs = c .before .before .before .pre .few Mms
 
 returns-2 : tie.Need-returns-2
 returns-2 c = one-unread _ _ Mms refl (c .before .table-reads2 .ensures) (c .if2 .taken)
 
-table-reads-requires-3 : tie.Need-table-reads-requires-3
-table-reads-requires-3 c κs = c .before .before .before .before .before .pre .few Vcm
-
 returns-3 : tie.Need-returns-3
 returns-3 c = one-unread _ _ Vcm refl (c .before .table-reads3 .ensures) (c .if3 .taken)
-
-table-reads-requires-4 : tie.Need-table-reads-requires-4
-table-reads-requires-4 c κs = c .before .before .before .before .before .before .before .pre .few Dcm
 
 returns-4 : tie.Need-returns-4
 unfolding allRead
@@ -50,11 +39,11 @@ pub all-read-spec : {M : Type 1} → statement M
 all-read-spec =
     tie.close
     (tie.spec
-    table-reads-requires
+    (λ c κs. search needs)
     returns
-    table-reads-requires-2
+    (λ c κs. search needs)
     returns-2
-    table-reads-requires-3
+    (λ c κs. search needs)
     returns-3
-    table-reads-requires-4
+    (λ c κs. search needs)
     returns-4)

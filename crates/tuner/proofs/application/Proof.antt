@@ -1,5 +1,5 @@
 -- Its number, with path and hidden.
-use Rattle.tuner.specs.Found.{applicationOf}
+use Rattle.tuner.specs.Checks.{applicationOf}
 use borrow.Author.Needs.{needs}
 use Rattle.tuner.proofs.application.Statement.{statement}
 use Rattle.tuner.proofs.application.Tie as tie

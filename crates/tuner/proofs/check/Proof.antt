@@ -5,7 +5,7 @@ use lib.ListN.{length}
 use denote.Ref.{now}
 use borrow.Author.Tests.{not-true, not-false}
 use Rattle.rules.specs.Holding.{limitOf, storeSize}
-use Rattle.tuner.proofs.Laws.{few, check-1, check-2, check-15, check-16, check-none}
+use Rattle.tuner.proofs.Laws.{check-1, check-2, check-15, check-16, check-none}
 use borrow.Author.Needs.{needs}
 use Rattle.tuner.proofs.check.Statement.{statement}
 use Rattle.tuner.proofs.check.Tie as tie
@@ -25,9 +25,6 @@ returns-3 c = let a = c .before .before .before .before .before .before .before 
     let roomy : storeSize (limitOf (a .state)) ≤ length (now (a .store)) = rw (c .before .before .before .before .before .store-size .ensures) at (c .before .before .before .before .if1 .left) in
     check-15 (a .state) (now (a .store)) roomy (sym (c .before .before .before .well-formed .ensures) ∙ not-false (c .before .before .before .well-formed .result) (c .before .before .if2 .left))
     (sym (c .before .all-live .ensures) ∙ not-true (c .before .all-live .result) (c .if3 .taken))
-
-all-read-requires : tie.Need-all-read-requires
-all-read-requires c κs = few (c .before .before .before .before .before .before .before .args .state) (sym (c .before .before .before .well-formed .ensures) ∙ not-false (c .before .before .before .well-formed .result) (c .before .before .if2 .left))
 
 returns-4 : tie.Need-returns-4
 returns-4 c = let a = c .before .before .before .before .before .before .before .before .before .args in
@@ -51,6 +48,6 @@ check-spec =
     returns-2
     (λ c κs. search needs)
     returns-3
-    all-read-requires
+    (λ c κs. search needs)
     returns-4
     returns-5)

@@ -1,30 +1,16 @@
--- Reference 0, no record, or the record found.
+-- Mode reference 0, or without a record, is 21.
 use mathlib.Core.Path.{sym, _∙_}
-use Rattle.tuner.proofs.Stages.{mode-zero, mode-missing, mode-there}
 use borrow.Author.Needs.{needs}
+use Rattle.tuner.proofs.Stages.{mode-zero, mode-missing, mode-there}
 use Rattle.tuner.proofs.tune_digital.Statement.{statement}
 use Rattle.tuner.proofs.tune_digital.Tie as tie
-
-returns : tie.Need-returns
-returns c = λ p found. let a = c .before .args in mode-zero p (a .c) (a .khz) (a .program) (a .reference) (c .if1 .taken)
-
-returns-2 : tie.Need-returns-2
-returns-2 c = λ p found. let a = c .before .before .before .args in
-    let some-mode = c .before .before .if1 .left in
-    mode-missing p (a .c) (a .khz) (a .program) (a .reference) some-mode (sym (c .enum-told .given .1) ∙ found .is some-mode)
-
-returns-3 : tie.Need-returns-3
-returns-3 c = λ p found. let a = c .before .before .before .before .before .args in
-    let some-mode = c .before .before .before .before .if1 .left in
-    rw (c .hidden .ensures) (mode-there p (a .c) (a .khz) (a .program) (a .reference) some-mode _ (sym (c .before .before .found .given .1) ∙ found .is some-mode))
 
 pub tune-digital-spec : {M : Type 1} → statement M
 tune-digital-spec =
     tie.close
-    (tie.spec
-    returns
-    (λ c. search needs)
-    (λ c. search needs)
-    (λ c κs. search needs)
-    returns-2
-    returns-3)
+    (tie.spec (λ c. mode-zero _ _ _ _ _ (c .if1 .taken))
+    (λ c κs. search needs) (λ c. search needs) (λ c. search needs) (λ c κs. search needs)
+    (λ c. let f = c .before .before in mode-missing _ _ _ _ _ (f .before .if1 .left) (sym (c .enum-told .given .1) ∙ f .find-mode .ensures))
+    (λ c. let f = c .before .before in
+        let m = f .before .before in
+        rw (c .hidden .ensures) (mode-there _ _ _ _ _ (m .before .if1 .left) _ (sym (f .found .given .1) ∙ m .find-mode .ensures))))
