@@ -1,57 +1,12 @@
--- Pieces fed one after the other, from the first read to the end of the input; and what is printed then.
-use Prim.Native.Nat.{ℕ, _+_, _≤_, _<_}
+-- What is printed.
+use Prim.Native.Nat.{ℕ, _≤_}
 use native.Mathlib.Omega.{arith}
 use mathlib.Core.Path.{_≡_, refl, sym, ap, _∙_}
-use mathlib.Core.List.{List, [], _∷_, _++_, flatten, append-nil}
-use lib.ListN.{length, take}
-use Rattle.rules.specs.Bytes.{byte, from}
+use mathlib.Core.List.{List, [], _∷_, _++_, append-nil}
+use lib.ListN.{length}
+use Rattle.rules.specs.Bytes.{byte}
 use Rattle.rules.specs.Lineup.{lineup}
-use Rattle.rules.specs.Feeding.{Intake, feed, feedAll}
-use Rattle.stream.specs.declared.Tally.{Tally}
-use Rattle.stream.specs.declared.Absorbed.{Absorbed}
-use Rattle.stream.specs.Tallied.{intakeOf, Grew}
-use Rattle.lineup.specs.Read.{heldIn, Fed, Shown}
-
--- ---- pieces
-
-one-more-fed : (i : Intake) (ps : List (List ℕ)) (p : List ℕ) → feed (feedAll i ps) p ≡ feedAll i (ps ++ (p ∷ []))
-unfolding feedAll
-one-more-fed i [] p = refl
-one-more-fed i (q ∷ ps) p = one-more-fed (feed i q) ps p
-
-pub fed-none : (t : Tally) (store buffer : List ℕ) → Fed (intakeOf t store []) t 0 (record { tally = t; kept = 0 }) store buffer
-unfolding feedAll heldIn
-fed-none t store buffer = record { pieces = []; is = refl; short = omega arith; grew = record { sections = omega arith; refused = omega arith } }
-
-module _ {i : Intake} {t : Tally} {n : ℕ} {h : Absorbed} {store buffer : List ℕ} (k : ℕ) (f : Fed i t n h store buffer) where
-  -- the end of the input: what is kept is still there
-  pub fed-all : (buffer' : List ℕ) → take (h .kept) buffer' ≡ take (h .kept) buffer → n ≤ k → Fed i t k h store buffer'
-  unfolding heldIn
-  fed-all buffer' same le =
-      record {
-        pieces = f .pieces;
-        is = ap (intakeOf (h .tally) store) same ∙ f .is;
-        short = f .short;
-        grew = record { sections = omega (arith, f .grew .sections); refused = omega (arith, f .grew .refused) };
-      }
-
-  -- a piece was read behind what is kept
-  pub fed-one : (r : Absorbed) (store' buffer' buffer'' : List ℕ) (got m : ℕ) → take (h .kept) buffer' ≡ take (h .kept) buffer → intakeOf (r .tally) store' (take (r .kept) buffer'') ≡ feed (intakeOf (h .tally) store (take (h .kept) buffer')) (take got (from buffer' (h .kept))) → r .kept ≤ 4097 → Grew (h .tally) (r .tally) m → n + m ≤ k → Fed i t k r store' buffer''
-  unfolding heldIn
-  fed-one r store' buffer' buffer'' got m same e short grew le =
-      let piece = take got (from buffer' (h .kept)) in
-      record {
-        pieces = f .pieces ++ (piece ∷ []);
-        is =
-            e
-            ∙ ap (λ (kept : List ℕ). feed (intakeOf (h .tally) store kept) piece) same
-            ∙ ap (λ (j : Intake). feed j piece) (f .is)
-            ∙ one-more-fed i (f .pieces) piece;
-        short = short;
-        grew = record { sections = omega (arith, f .grew .sections, grew .sections); refused = omega (arith, f .grew .refused, grew .refused) };
-      }
-
--- ---- what is printed
+use Rattle.lineup.specs.Read.{Shown}
 
 pub refused-alone : (head heading lines : List ℕ) → heading ++ lines ≡ lineup head → Shown head heading lines
 refused-alone head heading lines e = record { rest = []; is = e ∙ ap lineup (sym (append-nil head)); none = λ few. refl }

@@ -6,8 +6,7 @@ ghost use mathlib.Core.List.{flatten};
 ghost use lib.ListN.{length};
 ghost use Rattle.rules.specs.Tuning.{tune};
 ghost use Rattle.rules.specs.Lineup.{channelLine, linesOf};
-ghost use Rattle.tuner.specs.Checks.{checks};
-ghost use Rattle.tuner.specs.Found.{AllListed};
+ghost use Rattle.tuner.specs.Checks.{checks, AllListed};
 ghost use Rattle.text.specs.Written.{Wrote, Counts};
 ghost use Rattle.printout.specs.Lines.{boxOf, headingOf, Adds, Below};
 use rules::State;
@@ -47,7 +46,7 @@ fn add_line(
     requires { ⌜ (lines .size + 289 ≤ length (now out)) × (lines .count ≤ number) ⌝ }
     ensures { λ r. ⌜ Adds (channelLine number (tune state (now (store .entry)) number)) (now (out .entry)) lines (now (out .exit)) r ⌝ }
 {
-    let tuned = tuner::look_up_listed(state, store, ranges, channels, carriers, modes, number);
+    let tuned = tuner::look_up(state, store, ranges, channels, carriers, modes, number);
     let more = text::lines_of(number, tuned);
     let size = text::channel_line(out, lines.size, number, tuned);
     Lines {

@@ -16,12 +16,7 @@ fn gather(map: u16, store: &mut [u8], sections: &[u8]) -> Tally
     requires { ⌜ now store ≡ freshBox map .store ⌝ }
     ensures { λ r. ⌜ intakeOf r (now (store .exit)) [] ≡ finish (feedAll (begin map) (now (sections .entry) ∷ [])) ⌝ }
 {
-    let start = Tally {
-        state: receiver::start(map),
-        sections: 0,
-        refused: 0,
-    };
-    let fed = stream::feed(start, store, sections);
+    let fed = stream::feed(stream::begin(map), store, sections);
     let used = fed.used;
     let tally = fed.tally;
     stream::finish(tally, store, &sections[used..])

@@ -21,6 +21,7 @@ use Rattle.stream.specs.declared.Fed.{Fed}
 use Rattle.stream.specs.declared.Absorbed.{Absorbed}
 use Rattle.stream.specs.Tallied.{intakeOf}
 use Rattle.stream.proofs.map_of
+use Rattle.stream.proofs.begin
 use Rattle.stream.proofs.feed
 use Rattle.stream.proofs.absorb
 use Rattle.stream.proofs.finish
@@ -69,6 +70,9 @@ finished-once r q s z k l i e f =
 module _ {M : Type 1} (𝓤 : URA M) (H : Heap 𝓤) (A : Atoms 𝓤) (mem : Memory → SProp 𝓤) (run : Routine → Fun 𝓤) where
   pub map_of-determined : Determined 𝓤 {T = map_of.ended} (map_of.clauses 𝓤 H A mem run) (λ κs r e. r)
   map_of-determined = determined-by 𝓤 {T = map_of.ended} (map_of.clauses 𝓤 H A mem run) _ _ (λ κs a g r e. id⊢ 𝓤 _)
+
+  pub begin-determined : Determined 𝓤 {T = begin.ended} (begin.clauses 𝓤 H A mem run) (λ κs r e. r)
+  begin-determined = determined-by 𝓤 {T = begin.ended} (begin.clauses 𝓤 H A mem run) _ _ (λ κs a g r e. id⊢ 𝓤 _)
 
   pub feed-determined : Determined 𝓤 {T = feed.ended} (feed.clauses 𝓤 H A mem run) (λ κs r e. withLent r (now (e .1 .0)))
   feed-determined =

@@ -1,8 +1,10 @@
 -- The rules' intake, as the code holds it: the tally by value, the store that is lent with it, and the bytes kept. Counts are
 -- of 64 bits, so what counts says how much room they need.
 use Prim.Native.Nat.{ℕ, _+_, _^_, _≤_, _<_}
-use mathlib.Core.List.{List}
-use Rattle.rules.specs.Feeding.{Intake}
+use mathlib.Core.Path.{_≡_}
+use mathlib.Core.List.{List, []}
+use Rattle.rules.specs.Holding.{fresh}
+use Rattle.rules.specs.Feeding.{Intake, begin, feedAll, finish}
 use Rattle.stream.specs.declared.Tally.{Tally}
 
 unfoldable pub intakeOf : Tally → (store kept : List ℕ) → Intake
@@ -13,6 +15,15 @@ intakeOf t store kept =
       refused = t .refused;
       kept = kept;
     }
+
+unfoldable pub begun : (map : ℕ) → Tally
+begun map = record { state = fresh map; sections = 0; refused = 0 }
+
+-- some pieces were fed to a fresh box, and what was kept of the last is offered. A contract cannot say which bytes a read gives, so these are
+-- some
+pub record Gathered (map : ℕ) (t : Tally) (store : List ℕ) : Type 0 where
+  pub pieces : List (List ℕ)
+  pub is : intakeOf t store [] ≡ finish (feedAll (begin map) pieces)
 
 -- n more sections can be counted
 pub record Room (t : Tally) (n : ℕ) : Type 0 where

@@ -9,7 +9,7 @@ ghost use Rattle.rules.specs.Holding.{put};
 ghost use Rattle.rules.specs.Lineup.{refusals};
 ghost use Rattle.rules.specs.Feeding.{taking, unfinished};
 ghost use Rattle.rules.specs.Feeding as rule;
-ghost use Rattle.stream.specs.Tallied.{intakeOf, Room, Grew};
+ghost use Rattle.stream.specs.Tallied.{begun, intakeOf, Room, Grew};
 use rules::Answer;
 use rules::State;
 
@@ -36,7 +36,18 @@ pub struct Absorbed {
 pub fn map_of(input: &[u8]) -> u16
     ensures { λ r. ⌜ r ≡ word 0 (now (input .entry)) ⌝ }
 {
-    fields::byte(input, 0) as u16 * 256 + fields::byte(input, 1) as u16
+    fields::word(input, 0)
+}
+
+// A fresh box, which was offered nothing yet.
+pub fn begin(map: u16) -> Tally
+    ensures { λ r. ⌜ r ≡ begun map ⌝ }
+{
+    Tally {
+        state: receiver::start(map),
+        sections: 0,
+        refused: 0,
+    }
 }
 
 // 1 for a refusal, else 0.

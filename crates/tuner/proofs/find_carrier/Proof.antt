@@ -16,4 +16,4 @@ find-carrier-spec =
     (tie.spec (λ c κs. let f = c .before .before in (searchable (f .args .s) (now (f .args .store)) (f .pre .0) Cds refl, f .pre .1))
     (λ c κs. search needs)
     (λ c. let f = c .before .before .before .before in
-        c .carrier-at .ensures ∙ ap (carrierFound _) (found-by (f .args .s) (now (f .args .store)) (f .pre .0) Cds refl (f .args .index) (c .before .entry-of .ensures))))
+    c .carrier-at .ensures ∙ ap (carrierFound _) (found-by (f .args .s) (now (f .args .store)) (f .pre .0) Cds refl (f .args .index) (c .before .entry-of .ensures))))

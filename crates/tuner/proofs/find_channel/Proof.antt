@@ -16,4 +16,4 @@ find-channel-spec =
     (tie.spec (λ c κs. let f = c .before .before in (searchable (f .args .s) (now (f .args .store)) (f .pre .0) Vcm refl, f .pre .1))
     (λ c κs. search needs)
     (λ c. let f = c .before .before .before .before in
-        c .channel-at .ensures ∙ ap channelFound (found-by (f .args .s) (now (f .args .store)) (f .pre .0) Vcm refl (f .args .number) (c .before .entry-of .ensures))))
+    c .channel-at .ensures ∙ ap channelFound (found-by (f .args .s) (now (f .args .store)) (f .pre .0) Vcm refl (f .args .number) (c .before .entry-of .ensures))))

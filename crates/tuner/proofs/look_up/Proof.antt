@@ -15,12 +15,12 @@ look-up-spec =
     (λ c. search needs) (λ c. search needs)
     (λ c κs. let q = c .before .before .before .before .before .before .before .before .before .before .before .before .pre in (q .0, (q .1 .carriers-listed, q .1 .modes-listed)))
     (λ c. let f = c .before .before in
-        let d = f .before .before in
-        channel-missing _ _ (sym (d .is-defined .ensures) ∙ f .before .if2 .taken) (sym (c .enum-told .given .1) ∙ f .find-channel .ensures)
-        ∙ looked-up _ _ _ (d .before .before .before .before .before .before .before .pre .0) (d .before .if1 .left))
+    let d = f .before .before in
+    channel-missing _ _ (sym (d .is-defined .ensures) ∙ f .before .if2 .taken) (sym (c .enum-told .given .1) ∙ f .find-channel .ensures)
+    ∙ looked-up _ _ _ (d .before .before .before .before .before .before .before .pre .0) (d .before .if1 .left))
     (λ c. let f = c .before .before .before .before in
-        let d = f .before .before in
-        c .tune-channel .ensures ∙ channel-there _ _ (sym (d .is-defined .ensures) ∙ f .before .if2 .taken) _ (sym (c .before .before .found .given .1) ∙ f .find-channel .ensures)
-        ∙ looked-up _ _ _ (d .before .before .before .before .before .before .before .pre .0) (d .before .if1 .left))
+    let d = f .before .before in
+    c .tune-channel .ensures ∙ channel-there _ _ (sym (d .is-defined .ensures) ∙ f .before .if2 .taken) _ (sym (c .before .before .found .given .1) ∙ f .find-channel .ensures)
+    ∙ looked-up _ _ _ (d .before .before .before .before .before .before .before .pre .0) (d .before .if1 .left))
     (λ c. let d = c .before in
-        not-defined _ _ (sym (d .is-defined .ensures) ∙ c .if2 .left) ∙ looked-up _ _ _ (d .before .before .before .before .before .before .before .pre .0) (d .before .if1 .left)))
+    not-defined _ _ (sym (d .is-defined .ensures) ∙ c .if2 .left) ∙ looked-up _ _ _ (d .before .before .before .before .before .before .before .pre .0) (d .before .if1 .left)))

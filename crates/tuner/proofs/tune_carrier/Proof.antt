@@ -12,5 +12,5 @@ tune-carrier-spec =
     (λ c κs. search needs) (λ c. search needs) (λ c. search needs) (λ c κs. search needs)
     (λ c. let f = c .before .before in carrier-missing _ _ (f .before .if1 .left) (sym (c .enum-told .given .1) ∙ f .find-carrier .ensures))
     (λ c. let f = c .before .before in
-        let k = f .before .before in
-        c .tune-khz .ensures ∙ carrier-there _ _ (k .before .if1 .left) _ (sym (f .found .given .1) ∙ k .find-carrier .ensures)))
+    let k = f .before .before in
+    c .tune-khz .ensures ∙ carrier-there _ _ (k .before .if1 .left) _ (sym (f .found .given .1) ∙ k .find-carrier .ensures)))

@@ -12,5 +12,5 @@ tune-digital-spec =
     (λ c κs. search needs) (λ c. search needs) (λ c. search needs) (λ c κs. search needs)
     (λ c. let f = c .before .before in mode-missing _ _ _ _ _ (f .before .if1 .left) (sym (c .enum-told .given .1) ∙ f .find-mode .ensures))
     (λ c. let f = c .before .before in
-        let m = f .before .before in
-        rw (c .hidden .ensures) (mode-there _ _ _ _ _ (m .before .if1 .left) _ (sym (f .found .given .1) ∙ m .find-mode .ensures))))
+    let m = f .before .before in
+    rw (c .hidden .ensures) (mode-there _ _ _ _ _ (m .before .if1 .left) _ (sym (f .found .given .1) ∙ m .find-mode .ensures))))

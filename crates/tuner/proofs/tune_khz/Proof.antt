@@ -12,9 +12,9 @@ tune-khz-spec =
     tie.close
     (tie.spec (λ c κs. search needs) (λ c. search needs) (λ c κs. search needs) (λ c. search needs) (λ c κs. search needs)
     (λ c. let f = c .before .before in
-        let r = f .before .before in
-        c .tune-digital .ensures ∙ ap (tuneSignal _ _ _) (sym (f .signal .given .1)) ∙ within-reach _ _ _ (sym (r .before .in-reach .ensures) ∙ r .if1 .taken))
+    let r = f .before .before in
+    c .tune-digital .ensures ∙ ap (tuneSignal _ _ _) (sym (f .signal .given .1)) ∙ within-reach _ _ _ (sym (r .before .in-reach .ensures) ∙ r .if1 .taken))
     (λ c. let f = c .before .before in
-        let r = f .before .before in
-        rw (c .hidden .ensures) (ap (tuneSignal _ _ _) (sym (f .signal2 .given .1)) ∙ within-reach _ _ _ (sym (r .before .in-reach .ensures) ∙ r .if1 .taken)))
+    let r = f .before .before in
+    rw (c .hidden .ensures) (ap (tuneSignal _ _ _) (sym (f .signal2 .given .1)) ∙ within-reach _ _ _ (sym (r .before .in-reach .ensures) ∙ r .if1 .taken)))
     (λ c. out-of-reach _ _ _ (sym (c .before .in-reach .ensures) ∙ c .if1 .left)))
