@@ -8,7 +8,7 @@ use Rattle.rules.specs.Bytes.{from}
 use Rattle.rules.specs.Feeding.{Intake, feed, feedAll}
 use Rattle.stream.specs.declared.Tally.{Tally}
 use Rattle.stream.specs.declared.Absorbed.{Absorbed}
-use Rattle.stream.specs.Tallied.{begun, intakeOf, Room, Grew}
+use Rattle.stream.specs.Tallied.{intakeOf, Grew}
 use Rattle.capture.specs.Read.{heldIn, Fed}
 
 one-more-fed : (i : Intake) (ps : List (List ℕ)) (p : List ℕ) → feed (feedAll i ps) p ≡ feedAll i (ps ++ (p ∷ []))
@@ -47,16 +47,3 @@ module _ {i : Intake} {t : Tally} {n : ℕ} {h : Absorbed} {store buffer : List 
         short = short;
         grew = record { sections = omega (arith, f .grew .sections, grew .sections); refused = omega (arith, f .grew .refused, grew .refused) };
       }
-
--- ---- room to count what a fresh box is offered
-
-module _ (map : ℕ) (t : Tally) (e : t ≡ begun map) where
-  none-yet : (t .sections ≡ 0) × (t .refused ≡ 0)
-  unfolding begun
-  none-yet = (ap (λ (u : Tally). u .sections) e, ap (λ (u : Tally). u .refused) e)
-
-  pub roomy : Room t 9223372036854775808
-  roomy = record { sections = omega (arith, none-yet .0); refused = omega (arith, none-yet .1) }
-
-  pub room-left : (r : Tally) → Grew t r 9223372036854775808 → Room r 1
-  room-left r g = record { sections = omega (arith, none-yet .0, g .sections); refused = omega (arith, none-yet .1, g .refused) }

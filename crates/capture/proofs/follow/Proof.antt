@@ -61,7 +61,7 @@ follow-spec =
     (λ c κs. let l = c .before .before .before .loop .inv in omega (arith, l .3 .short, l .2, c .before .before .before .before .before .before .pre .0))
     (λ c. search needs) (λ c. search needs)
     (λ c. let f = c .before .before .before .before in
-        let l = f .before .before .before .before .loop .inv in
-        fed-all _ (l .3) _ (f .refill .ensures .1) (omega (arith, l .0)))
+    let l = f .before .before .before .before .loop .inv in
+    fed-all _ (l .3) _ (f .refill .ensures .1) (omega (arith, l .0)))
     absorb-requires (λ c. search needs) (λ c. search needs) loop-again (λ c. search needs) (λ c. search needs)
     (λ c. let l = c .before .loop .inv in fed-all _ (l .3) _ refl (omega (arith, l .0))))

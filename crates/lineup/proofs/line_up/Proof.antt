@@ -8,33 +8,19 @@ use Rattle.lineup.proofs.Laws.{refused-alone, with-rest}
 use Rattle.lineup.proofs.line_up.Statement.{statement}
 use Rattle.lineup.proofs.line_up.Tie as tie
 
-gather-requires : tie.Need-gather-requires
-gather-requires c κs = (search needs, rw (c .before .before .map-of .ensures) (c .before .before .before .before .before .before .pre .1))
-
-returns : tie.Need-returns
-returns c =
-    let r = c .refused .ensures in
-    let head = now (c .before .before .before .before .before .args .head) in
-    (refused-alone head _ _ (refused-shown head refl (c .before .before .if1 .taken) (r .0)), (r .1, (omega arith, refl)))
-
-returns-2 : tie.Need-returns-2
-returns-2 c =
-    let g = c .before .before .before .before .before .before .gather in
-    let m = c .before .before .before .before .before .before .before .before .before .map-of in
-    let p = c .print .ensures in
-    let head = now (c .before .before .before .before .before .before .before .before .before .before .before .before .before .args .head) in (
-      with-rest head _ _ _ (c .before .before .before .before .before .before .before .before .before .before .if1 .left) (c .before .before .before .before .before .before .before .before .before .before .before .before .before .pre .0) (all-shown head (m .result) (g .result) _ (m .ensures) (g .ensures) (p .0) (p .1 .0)),
-      p .1 .1,
-    )
-
 pub line-up-spec : {M : Type 1} → statement M
 line-up-spec =
     tie.close
-    (tie.spec
+    (tie.spec (λ c κs. search needs)
+    (λ c. let r = c .refused .ensures in
+    let head = now (c .before .before .before .before .before .args .head) in
+    (refused-alone head _ _ (refused-shown head refl (c .before .before .if1 .taken) (r .0)), (r .1, (omega arith, refl))))
     (λ c κs. search needs)
-    returns
-    (λ c κs. search needs)
-    gather-requires
-    (λ c κs. search needs)
-    (λ c. search needs)
-    returns-2)
+    (λ c κs. (search needs, rw (c .before .before .map-of .ensures) (c .before .before .before .before .before .before .pre .1)))
+    (λ c κs. search needs) (λ c. search needs)
+    (λ c. let g = c .before .before .before .before .before .before .before in
+    let m = g .before .before .before in
+    let a = m .before .before .before .before in
+    let p = c .print .ensures in
+    let head = now (a .args .head) in
+    (with-rest head _ _ _ (m .before .if1 .left) (a .pre .0) (all-shown head (m .map-of .result) (g .gather .result .tally) _ (m .map-of .ensures) (g .gather .ensures) (p .0) (p .1 .0)), p .1 .1)))
