@@ -12,13 +12,13 @@ import sys
 sys.dont_write_bytecode = True
 sys.path.insert(0, os.path.join(os.path.dirname(os.path.abspath(__file__)), '..', 'tests', 'second'))
 
-import generate
-from pieces import NUMBERS, Dice, descriptor, revision, seal, two
-from plants import (MAP, Body, analogue, application, by10, by125, carriers, digital, front_bytes, mode, record_bytes,
-                    section_of_body, spans)
-from receiver import FRESH, NO_GATHERED, ORDER, STORE_BYTES, Gathered, Live, State, Table, place_start
-from section import CDS, DCM, MMS, VCM, check
-from trials import state_bytes, store_of
+from generate.pieces import NUMBERS, Dice, descriptor, revision, seal, two
+from generate.plants import (MAP, Body, analogue, application, by10, by125, carriers, digital, front_bytes, mode,
+                             record_bytes, section_of_body, spans)
+from generate.sections import batch
+from generate.trials import state_bytes, store_of
+from program.receiver import FRESH, NO_GATHERED, ORDER, STORE_BYTES, Gathered, Live, State, Table, place_start
+from program.section import CDS, DCM, MMS, VCM, check
 
 SECTIONS = 4
 LONGEST = 1024
@@ -206,7 +206,7 @@ def inputs():
     whole = plant(dice)
     yield 'plant.sections', framed(whole)
     yield 'small.sections', framed(small_sections(dice))
-    yield 'any.sections', framed(item.section for item in generate.batch(1, ANY_SECTIONS, 1))
+    yield 'any.sections', framed(item.section for item in batch(1, ANY_SECTIONS, 1))
     for length in LENGTHS:
         alone = [lone_section(dice, name, length) for name in ORDER]
         yield 'all_%d.sections' % length, framed(alone)

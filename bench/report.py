@@ -159,7 +159,7 @@ one: starting and reading the input are left out, calling is in it. A repeated m
 and fills some thousand bytes and more, counts once for each byte. Times are of both sides in one process in turn, the best
 of 21 to 301 rounds; of whole programs the processor's time, the best of 15 runs. A ratio is proved to plain C.
 
-The plain C (`bench/plain`) was written from document 01 and its readings, with the second program (`tests/second`) at hand
+The plain C (`bench/plain`) was written from document 01 and its readings, with the second program (`tests/second/program`) at hand
 and without a look at the proved code: static tables, a CRC of eight bytes at a time, one pass, no allocation, the same
 compiler with `-O2`. `bench/plain/test` compares it with the second program. Before anything is counted here both sides must
 give the same answers, and the same stores after an offer, on what is measured; also on sections of all kinds, most of them

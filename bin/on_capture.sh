@@ -1,5 +1,5 @@
 # Source this: on_capture PROGRAM SAMPLE [FILE] proves and builds a program of the repository, if need be, and runs it on a
-# capture: on FILE, on standard input where that is `-`, and on the sample where none is named.
+# capture: on FILE, on standard input where that is `-`, and on the sample where none is named. Standard output is the program's alone.
 on_capture() {
     local name=$1 sample=$2 top
     shift 2

@@ -56,14 +56,62 @@ command_x86() {
     chmod +x "$1"
 }
 
-# proving WHAT COMMAND..: runs a command of the toolchain, one at a time where several scripts do; where it fails its last
-# lines, and one that says what failed
+# rests_on CRATE: the crate and all crates of the repository that it rests on (crates.txt), in the order in which rt takes them: those
+# first that rest on nothing, then those that rest on these alone, and so on
+rests_on() {
+    CRATE=$1 awk '
+        function visit(name,    rests, each, count, level) {
+            if (name in levels) return
+            count = split(rest[name], rests, " ")
+            for (each = 1; each <= count; each++) if (rests[each] in rest) {
+                visit(rests[each])
+                if (levels[rests[each]] >= level) level = levels[rests[each]] + 1
+            }
+            levels[name] = level + 0
+            print levels[name], name
+        }
+        { sub(/#.*/, "") }
+        split($0, line, ":") == 2 { gsub(/[ \t]/, "", line[1]); rest[line[1]] = line[2] }
+        END { if (ENVIRON["CRATE"] in rest) visit(ENVIRON["CRATE"]) }' crates.txt | sort -s -n -k 1,1 | cut -d " " -f 2
+}
+
+# progress WHAT MARK PARENT CRATE..: for the background, as long as the process PARENT is there. Says on standard error which of the crates
+# is being proved: one for which rt has begun a file of what the prover says, target/log/CRATE.say, since the file MARK. It begins none for
+# a crate that is proved already
+progress() {
+    local what=$1 mark=$2 parent=$3 told=' ' now crate place
+    shift 3
+    while read -r _ _ _ now _ <"/proc/$BASHPID/stat" && [ "$now" = "$parent" ]; do
+        place=0
+        for crate in "$@"; do
+            place=$((place + 1))
+            if [[ $told != *" $crate "* && target/log/$crate.say -nt $mark ]]; then
+                [ "$told" != ' ' ] || printf '%s: proving and building %s, some minutes the first time\n' "$0" "$what" >&2
+                printf '%s: proving %d of %d: %s\n' "$0" "$place" $# "$crate" >&2
+                told+="$crate "
+            fi
+        done
+        sleep 1 >/dev/null 2>&1
+    done
+}
+
+# proving WHAT CRATE COMMAND..: runs a command of the toolchain that proves a crate and what it rests on, one at a time where several
+# scripts do, and says how far it is; where it fails its last lines, and one that says what failed
 proving() {
-    local log
-    printf '%s: proving and building %s, some minutes the first time\n' "$0" "$1" >&2
-    shift
+    local what=$1 crates parent=$BASHPID mark=target/c/began.$BASHPID teller log status=0
+    mapfile -t crates < <(rests_on "$2")
+    shift 2
     mkdir -p target/c
-    log=$(flock target/c/proving "$@" 2>&1) || {
+    : >"$mark"
+    (
+        trap 'rm -f "$mark"' EXIT
+        progress "$what" "$mark" "$parent" "${crates[@]}"
+    ) &
+    teller=$!
+    log=$(flock target/c/proving "$@" 2>&1 </dev/null) || status=$?
+    kill "$teller" || true
+    wait "$teller" 2>/dev/null || true
+    [ "$status" -eq 0 ] || {
         printf '%s\n' "$log" | tail -n 5 >&2
         printf '%s: %s failed\n' "$0" "$*" >&2
         exit 1
@@ -72,11 +120,11 @@ proving() {
 
 # archive CRATE: proves what is not proved yet and writes target/staticlib/libCRATE.a
 archive() {
-    proving "the archive of $1" rt staticlib "$1"
+    proving "the archive of $1" "$1" rt staticlib "$1"
 }
 
 # program CRATE: proves what is not proved yet and writes target/bin/CRATE, and target/c/CRATE, a command that runs it
 program() {
-    proving "$1" rt check "$1"
+    proving "$1" "$1" rt check "$1"
     command_x86 "target/c/$1" "target/bin/$1"
 }

@@ -10,9 +10,9 @@ must have refused this answer: of code a function (or several), whose own proof 
 a theorem, or a part of one as THEOREM.PART. A declaration that was refused only because it rests on one that was refused doesn't
 count, and nor does one that names something which isn't there. Of one edit no two answers name the same place.
 
-It also holds docs/PROMISES.md to the tree: every label is named there, and how many there are; and every public function, those of
-public modules too, has two wrong answers that it refuses itself, and its theorem in proofs/Determined.antt, which says `Determined` of it
-but for the exceptions below. Run it behind rt ci or rt must-fail, in the repository's root.
+It also holds docs/PROMISES.md to the tree: every label is named there, one of code under a function of its crate, and how many there are;
+and every public function, those of public modules too, has its own paragraph there, two wrong answers that it refuses itself, and its theorem
+in proofs/Determined.antt, which says `Determined` of it but for the exceptions below. Run it behind rt ci or rt must-fail, in the repository's root.
 """
 import collections
 import pathlib
@@ -133,12 +133,14 @@ def public_functions(source):
 
 
 def promised(root, labels, refusing, edits):
-    """docs/PROMISES.md names every label and says how many there are; every public function refuses two wrong answers and is determined."""
+    """docs/PROMISES.md names every label and says how many there are; every public function stands there, refuses two wrong answers and is
+    determined."""
     promises = (root / "docs" / "PROMISES.md").read_text(encoding="utf-8")
+    paragraphs = re.split(r"\n\s*\n", promises)
     for crate, label in labels:
-        # of code, in a line that speaks of the crate or one of its functions
-        lines = [line for line in promises.splitlines() if crate in ("rules", "lineup") or f"`{crate}::" in line]
-        if not any(f"`{label}`" in line for line in lines):
+        # of code, in the paragraph of one of the crate's functions
+        asked = [text for text in paragraphs if crate in ("rules", "lineup") or text.startswith(f"**`{crate}::")]
+        if not any(f"`{label}`" in text for text in asked):
             fail(f"docs/PROMISES.md does not name {crate}/{label}")
     if not re.search(rf"^{len(labels)} of them, in {len(edits)} edits", promises, re.MULTILINE):
         fail(f"docs/PROMISES.md does not say '{len(labels)} of them, in {len(edits)} edits'")
@@ -150,6 +152,8 @@ def promised(root, labels, refusing, edits):
             says = "" if (crate, function) in BY_MEANING else " Determined "
             if not theorems.is_file() or f"pub {function}-determined :{says}" not in theorems.read_text(encoding="utf-8"):
                 fail(f"{theorems} has no {function}-determined, or it doesn't say 'Determined'")
+            if not re.search(rf"^\*\*`{crate}::(?:\w+::)?{function}\(", promises, re.MULTILINE):
+                fail(f"docs/PROMISES.md has no paragraph '**`{crate}::{function}(..)`**'")
             if refusing[crate, function] < 2:
                 fail(f"{crate}::{function} has fewer than two wrong answers that it refuses itself")
             functions += 1

@@ -2,8 +2,8 @@
 
 program.py LINEUP [--seed N] [--count N]
 
-The runs are those of tests/second/runs.py: all long ones, and a part of the others.  Each input comes through a
-pipe, whole or in pieces of any size, so that reads end anywhere.
+The runs are those of tests/second/generate/runs.py: all long ones, and a part of the others.  Each input comes
+through a pipe, whole or in pieces of any size, so that reads end anywhere.
 """
 
 import os
@@ -16,9 +16,10 @@ import threading
 sys.dont_write_bytecode = True
 sys.path.insert(0, os.path.join(os.path.dirname(os.path.abspath(__file__)), '..', 'second'))
 
-import lineup
-import runs
-from compare import PATIENCE, Parser, number_from
+from arguments import Parser, number_from
+from compare.compare_section import PATIENCE
+from generate import runs
+from program import lineup
 
 LONG = 60000            # bytes; such a run needs more than one read, or nearly
 EVERY = 16              # of the other runs, one in so many
