@@ -23,15 +23,6 @@ loop-holds c =
     let h : c .args .b * 2 ^ 24 % 2 ^ 32 < 2 ^ 32 = omega arith in
     (omega arith, xor-lt 32 (c .args .reg) _ (omega arith) h, crc-byte (c .args .reg) (c .args .b) (omega arith) (omega arith))
 
-zero-bit-requires : tie.Need-zero-bit-requires Inv-loop μ-loop
-zero-bit-requires c κs = search needs
-
-add-counter : tie.Need-add-counter Inv-loop μ-loop
-add-counter c = search needs
-
-loop-less : tie.Need-loop-less Inv-loop μ-loop
-loop-less c = search needs
-
 loop-again : tie.Need-loop-again Inv-loop μ-loop
 unfolding shiftAll
 loop-again c =
@@ -47,14 +38,4 @@ returns c =
     rw e at (l .inv .2)
 
 pub byte-step-spec : {M : Type 1} → statement M
-byte-step-spec =
-    tie.close
-    (tie.spec
-    Inv-loop
-    μ-loop
-    loop-holds
-    zero-bit-requires
-    add-counter
-    loop-less
-    loop-again
-    returns)
+byte-step-spec = tie.close (tie.spec Inv-loop μ-loop loop-holds (λ c κs. search needs) (λ c. search needs) (λ c. search needs) loop-again returns)

@@ -17,21 +17,6 @@ Inv-loop start s from reg₀ i₀ reg i = (i ≤ length s) × (reg < 2 ^ 32) × 
 abbrev μ-loop : tie.MeasureT-loop
 μ-loop start s from reg₀ i₀ reg i = length s - i
 
-loop-holds : tie.Need-loop-holds Inv-loop μ-loop
-loop-holds c = search needs
-
-shared-slice-read-byte-step : tie.Need-shared-slice-read-byte-step Inv-loop μ-loop
-shared-slice-read-byte-step c = search needs
-
-byte-step-requires : tie.Need-byte-step-requires Inv-loop μ-loop
-byte-step-requires c κs = search needs
-
-add-i : tie.Need-add-i Inv-loop μ-loop
-add-i c = search needs
-
-loop-less : tie.Need-loop-less Inv-loop μ-loop
-loop-less c = search needs
-
 loop-again : tie.Need-loop-again Inv-loop μ-loop
 loop-again c =
     let l = c .before .before .before .loop in
@@ -46,15 +31,5 @@ returns c =
     rw (e, drop-length, crc-nil) at (l .inv .2)
 
 pub crc-rest-spec : {M : Type 1} → statement M
-crc-rest-spec =
-    tie.close
-    (tie.spec
-    Inv-loop
-    μ-loop
-    loop-holds
-    shared-slice-read-byte-step
-    byte-step-requires
-    add-i
-    loop-less
-    loop-again
-    returns)
+crc-rest-spec = tie.close (tie.spec
+    Inv-loop μ-loop (λ c. search needs) (λ c. search needs) (λ c κs. search needs) (λ c. search needs) (λ c. search needs) loop-again returns)

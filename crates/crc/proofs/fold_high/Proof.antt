@@ -8,18 +8,6 @@ use Rattle.crc.proofs.Folding.{folded-above}
 use Rattle.crc.proofs.fold_high.Statement.{statement}
 use Rattle.crc.proofs.fold_high.Tie as tie
 
-times-96-requires : tie.Need-times-96-requires
-times-96-requires c κs = search needs
-
-times-104-requires : tie.Need-times-104-requires
-times-104-requires c κs = search needs
-
-times-112-requires : tie.Need-times-112-requires
-times-112-requires c κs = search needs
-
-times-120-requires : tie.Need-times-120-requires
-times-120-requires c κs = search needs
-
 returns : tie.Need-returns
 returns c =
     let a = c .before .before .before .before .args in
@@ -35,6 +23,4 @@ returns c =
     (c .times-120 .ensures))
 
 pub fold-high-spec : {M : Type 1} → statement M
-fold-high-spec =
-    tie.close
-    (tie.spec times-96-requires times-104-requires times-112-requires times-120-requires returns)
+fold-high-spec = tie.close (tie.spec (λ c κs. search needs) (λ c κs. search needs) (λ c κs. search needs) (λ c κs. search needs) returns)

@@ -20,12 +20,6 @@ abbrev μ-loop : tie.MeasureT-loop
 loop-holds : tie.Need-loop-holds Inv-loop μ-loop
 loop-holds c = starts 24 (c .args .k) (omega arith)
 
-add-counter : tie.Need-add-counter Inv-loop μ-loop
-add-counter c = search needs
-
-loop-less : tie.Need-loop-less Inv-loop μ-loop
-loop-less c = search needs
-
 loop-again : tie.Need-loop-again Inv-loop μ-loop
 unfolding power residue crcFrom bitsOf shiftAll shift
 loop-again c =
@@ -37,4 +31,4 @@ unfolding worked wanted times turns turn power residue crcFrom bitsOf shiftAll s
 returns c = ends (c .before .loop .inv) (omega arith) (omega arith) (omega arith) refl
 
 pub times-88-spec : {M : Type 1} → statement M
-times-88-spec = tie.close (tie.spec Inv-loop μ-loop loop-holds add-counter loop-less loop-again returns)
+times-88-spec = tie.close (tie.spec Inv-loop μ-loop loop-holds (λ c. search needs) (λ c. search needs) loop-again returns)

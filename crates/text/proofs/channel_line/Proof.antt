@@ -32,20 +32,6 @@ returns-4 c =
     (p .put-application .ensures .0, line-of (ap (channelLine (p .before .before .before .before .before .before .args .number)) (p .before .before .before .tuned3 .given .1)) (p .put-application .ensures .1))
 
 pub channel-line-spec : {M : Type 1} → statement M
-channel-line-spec =
-    tie.close
-    (tie.spec
-    (λ c. search needs)
-    (λ c. search needs)
-    (λ c κs. search needs)
-    (λ c. search needs)
-    (λ c κs. search needs)
-    (λ c. search needs)
-    (λ c κs. search needs)
-    returns
-    (λ c. search needs)
-    returns-2
-    (λ c. search needs)
-    returns-3
-    (λ c. search needs)
-    returns-4)
+channel-line-spec = tie.close (tie.spec
+    (λ c. search needs) (λ c. search needs) (λ c κs. search needs) (λ c. search needs) (λ c κs. search needs) (λ c. search needs) (λ c κs. search needs) returns
+    (λ c. search needs) returns-2 (λ c. search needs) returns-3 (λ c. search needs) returns-4)

@@ -14,11 +14,4 @@ returns c =
     (then (then (a .put-counts .ensures .1) (b .put-versions .ensures .1)) (c .put-line .ensures .1), counts (c .put-line .ensures .1))
 
 pub heading-spec : {M : Type 1} → statement M
-heading-spec =
-    tie.close
-    (tie.spec
-    (λ c κs. search needs)
-    (λ c κs. search needs)
-    (λ c. search needs)
-    (λ c κs. search needs)
-    returns)
+heading-spec = tie.close (tie.spec (λ c κs. search needs) (λ c κs. search needs) (λ c. search needs) (λ c κs. search needs) returns)

@@ -21,6 +21,4 @@ unfolding channelLine
 returns-4 c = simp (c .enum-told4 .given .1)
 
 pub lines-of-spec : {M : Type 1} → statement M
-lines-of-spec =
-    tie.close
-    (tie.spec (λ c. search needs) (λ c. search needs) (λ c. search needs) (λ c. search needs) returns returns-2 returns-3 returns-4)
+lines-of-spec = tie.close (tie.spec (λ c. search needs) (λ c. search needs) (λ c. search needs) (λ c. search needs) returns returns-2 returns-3 returns-4)

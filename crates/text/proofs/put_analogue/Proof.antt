@@ -17,16 +17,6 @@ returns c =
     (omega (arith, a .put-place .ensures .0, b .put-field .ensures .0, d .put-field2 .ensures .0, e .put .ensures .behind), then (then (then (a .put-place .ensures .1) (b .put-field .ensures .1)) (d .put-field2 .ensures .1)) (e .put .ensures))
 
 pub put-analogue-spec : {M : Type 1} → statement M
-put-analogue-spec =
-    tie.close
-    (tie.spec
-    (λ c. search needs)
-    (λ c κs. search needs)
-    (λ c. search needs)
-    (λ c κs. search needs)
-    (λ c. search needs)
-    (λ c κs. search needs)
-    (λ c. search needs)
-    (λ c κs. search needs)
-    (λ c. search needs)
-    returns)
+put-analogue-spec = tie.close (tie.spec
+    (λ c. search needs) (λ c κs. search needs) (λ c. search needs) (λ c κs. search needs) (λ c. search needs) (λ c κs. search needs) (λ c. search needs)
+    (λ c κs. search needs) (λ c. search needs) returns)

@@ -16,14 +16,6 @@ returns c =
     (omega (arith, a .put-front .ensures .0, b .put-field .ensures .0, d .put .ensures .behind), then (then (a .put-front .ensures .1) (b .put-field .ensures .1)) (d .put .ensures))
 
 pub put-application-spec : {M : Type 1} → statement M
-put-application-spec =
-    tie.close
-    (tie.spec
-    (λ c. search needs)
-    (λ c κs. search needs)
-    (λ c. search needs)
-    (λ c κs. search needs)
-    (λ c. search needs)
-    (λ c κs. search needs)
-    (λ c. search needs)
+put-application-spec = tie.close (tie.spec
+    (λ c. search needs) (λ c κs. search needs) (λ c. search needs) (λ c κs. search needs) (λ c. search needs) (λ c κs. search needs) (λ c. search needs)
     returns)

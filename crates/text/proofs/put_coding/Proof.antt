@@ -16,14 +16,6 @@ returns c =
     (omega (arith, a .put-field .ensures .0, b .put-field2 .ensures .0, d .put-field3 .ensures .0), then (then (a .put-field .ensures .1) (b .put-field2 .ensures .1)) (d .put-field3 .ensures .1))
 
 pub put-coding-spec : {M : Type 1} → statement M
-put-coding-spec =
-    tie.close
-    (tie.spec
-    (λ c. search needs)
-    (λ c κs. search needs)
-    (λ c. search needs)
-    (λ c κs. search needs)
-    (λ c. search needs)
-    (λ c κs. search needs)
-    (λ c. search needs)
+put-coding-spec = tie.close (tie.spec
+    (λ c. search needs) (λ c κs. search needs) (λ c. search needs) (λ c κs. search needs) (λ c. search needs) (λ c κs. search needs) (λ c. search needs)
     returns)

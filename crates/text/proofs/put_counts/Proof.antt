@@ -17,16 +17,6 @@ returns c =
     (omega (arith, a .put .ensures .behind, b .put-line .ensures .0, d .put-line2 .ensures .0, e .put-line3 .ensures .0), then (then (then (a .put .ensures) (b .put-line .ensures .1)) (d .put-line2 .ensures .1)) (e .put-line3 .ensures .1))
 
 pub put-counts-spec : {M : Type 1} → statement M
-put-counts-spec =
-    tie.close
-    (tie.spec
-    (λ c. search needs)
-    (λ c κs. search needs)
-    (λ c. search needs)
-    (λ c κs. search needs)
-    (λ c. search needs)
-    (λ c κs. search needs)
-    (λ c. search needs)
-    (λ c κs. search needs)
-    (λ c. search needs)
-    returns)
+put-counts-spec = tie.close (tie.spec
+    (λ c. search needs) (λ c κs. search needs) (λ c. search needs) (λ c κs. search needs) (λ c. search needs) (λ c κs. search needs) (λ c. search needs)
+    (λ c κs. search needs) (λ c. search needs) returns)

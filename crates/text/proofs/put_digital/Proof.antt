@@ -17,15 +17,6 @@ returns c =
     (omega (arith, a .put-place .ensures .0, b .put-field .ensures .0, d .put-mode .ensures .0, e .put .ensures .behind), then (then (then (a .put-place .ensures .1) (b .put-field .ensures .1)) (d .put-mode .ensures .1)) (e .put .ensures))
 
 pub put-digital-spec : {M : Type 1} → statement M
-put-digital-spec =
-    tie.close
-    (tie.spec
-    (λ c. search needs)
-    (λ c κs. search needs)
-    (λ c. search needs)
-    (λ c κs. search needs)
-    (λ c κs. search needs)
-    (λ c. search needs)
-    (λ c κs. search needs)
-    (λ c. search needs)
-    returns)
+put-digital-spec = tie.close (tie.spec
+    (λ c. search needs) (λ c κs. search needs) (λ c. search needs) (λ c κs. search needs) (λ c κs. search needs) (λ c. search needs) (λ c κs. search needs)
+    (λ c. search needs) returns)

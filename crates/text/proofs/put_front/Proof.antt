@@ -17,15 +17,6 @@ returns c =
     (omega (arith, a .put-field .ensures .0, b .put .ensures .behind, d .put-field2 .ensures .0, e .put-field3 .ensures .0), then (then (then (a .put-field .ensures .1) (b .put .ensures)) (d .put-field2 .ensures .1)) (e .put-field3 .ensures .1))
 
 pub put-front-spec : {M : Type 1} → statement M
-put-front-spec =
-    tie.close
-    (tie.spec
-    (λ c. search needs)
-    (λ c κs. search needs)
-    (λ c κs. search needs)
-    (λ c. search needs)
-    (λ c κs. search needs)
-    (λ c. search needs)
-    (λ c κs. search needs)
-    (λ c. search needs)
-    returns)
+put-front-spec = tie.close (tie.spec
+    (λ c. search needs) (λ c κs. search needs) (λ c κs. search needs) (λ c. search needs) (λ c κs. search needs) (λ c. search needs) (λ c κs. search needs)
+    (λ c. search needs) returns)

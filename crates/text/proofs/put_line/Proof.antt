@@ -15,5 +15,4 @@ returns c =
     (omega (arith, a .put-field .ensures .0, b .put .ensures .behind), then (a .put-field .ensures .1) (b .put .ensures))
 
 pub put-line-spec : {M : Type 1} → statement M
-put-line-spec =
-    tie.close (tie.spec (λ c κs. search needs) (λ c. search needs) (λ c κs. search needs) (λ c. search needs) returns)
+put-line-spec = tie.close (tie.spec (λ c κs. search needs) (λ c. search needs) (λ c κs. search needs) (λ c. search needs) returns)

@@ -16,15 +16,6 @@ returns c =
     (omega (arith, a .put-coding .ensures .0, b .put-field .ensures .0, d .put-field2 .ensures .0), then (then (a .put-coding .ensures .1) (b .put-field .ensures .1)) (d .put-field2 .ensures .1))
 
 pub put-mode-spec : {M : Type 1} → statement M
-put-mode-spec =
-    tie.close
-    (tie.spec
-    (λ c κs. search needs)
-    (λ c. search needs)
-    (λ c. search needs)
-    (λ c κs. search needs)
-    (λ c. search needs)
-    (λ c. search needs)
-    (λ c κs. search needs)
-    (λ c. search needs)
-    returns)
+put-mode-spec = tie.close (tie.spec
+    (λ c κs. search needs) (λ c. search needs) (λ c. search needs) (λ c κs. search needs) (λ c. search needs) (λ c. search needs) (λ c κs. search needs)
+    (λ c. search needs) returns)

@@ -15,6 +15,4 @@ returns c =
     (omega (arith, a .put-front .ensures .0, b .put-field .ensures .0), then (a .put-front .ensures .1) (b .put-field .ensures .1))
 
 pub put-place-spec : {M : Type 1} → statement M
-put-place-spec =
-    tie.close
-    (tie.spec (λ c κs. search needs) (λ c. search needs) (λ c κs. search needs) (λ c. search needs) returns)
+put-place-spec = tie.close (tie.spec (λ c κs. search needs) (λ c. search needs) (λ c κs. search needs) (λ c. search needs) returns)

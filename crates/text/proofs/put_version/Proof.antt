@@ -23,15 +23,6 @@ returns-2 c =
     (omega (arith, a .put .ensures .behind, b .put2 .ensures .behind), is-not-live (now (s .args .key)) (s .args .live) (a .before .before .if1 .left) (then (a .put .ensures) (b .put2 .ensures)))
 
 pub put-version-spec : {M : Type 1} → statement M
-put-version-spec =
-    tie.close
-    (tie.spec
-    (λ c. search needs)
-    (λ c κs. search needs)
-    (λ c. search needs)
-    returns
-    (λ c κs. search needs)
-    (λ c. search needs)
-    (λ c κs. search needs)
-    (λ c. search needs)
+put-version-spec = tie.close (tie.spec
+    (λ c. search needs) (λ c κs. search needs) (λ c. search needs) returns (λ c κs. search needs) (λ c. search needs) (λ c κs. search needs) (λ c. search needs)
     returns-2)

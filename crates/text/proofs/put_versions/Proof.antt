@@ -17,16 +17,6 @@ returns c =
     (omega (arith, a .put-version .ensures .0, b .put-version2 .ensures .0, d .put-version3 .ensures .0, e .put-version4 .ensures .0), then (then (then (a .put-version .ensures .1) (b .put-version2 .ensures .1)) (d .put-version3 .ensures .1)) (e .put-version4 .ensures .1))
 
 pub put-versions-spec : {M : Type 1} → statement M
-put-versions-spec =
-    tie.close
-    (tie.spec
-    (λ c. search needs)
-    (λ c κs. search needs)
-    (λ c. search needs)
-    (λ c κs. search needs)
-    (λ c. search needs)
-    (λ c κs. search needs)
-    (λ c. search needs)
-    (λ c κs. search needs)
-    (λ c. search needs)
-    returns)
+put-versions-spec = tie.close (tie.spec
+    (λ c. search needs) (λ c κs. search needs) (λ c. search needs) (λ c κs. search needs) (λ c. search needs) (λ c κs. search needs) (λ c. search needs)
+    (λ c κs. search needs) (λ c. search needs) returns)

@@ -14,5 +14,4 @@ unfolding offeredPart
 returns-2 c = simp (ne-eqb _ _ (c .before .before .if1 .left), c .state-part .ensures)
 
 pub offered-part-spec : {M : Type 1} → statement M
-offered-part-spec =
-    tie.close (tie.spec (λ c κs. search needs) returns (λ c κs. search needs) returns-2)
+offered-part-spec = tie.close (tie.spec (λ c κs. search needs) returns (λ c κs. search needs) returns-2)

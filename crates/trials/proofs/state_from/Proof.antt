@@ -9,17 +9,6 @@ unfolding stateFrom
 returns c = simp (c .holding-from4 .ensures, c .before .holding-from3 .ensures, c .before .before .holding-from2 .ensures, c .before .before .before .holding-from .ensures, c .before .before .before .before .byte2 .ensures, c .before .before .before .before .before .byte .ensures)
 
 pub state-from-spec : {M : Type 1} → statement M
-state-from-spec =
-    tie.close
-    (tie.spec
-    (λ c κs. search needs)
-    (λ c κs. search needs)
-    (λ c. search needs)
-    (λ c. search needs)
-    (λ c. search needs)
-    (λ c. search needs)
-    (λ c κs. search needs)
-    (λ c κs. search needs)
-    (λ c κs. search needs)
-    (λ c κs. search needs)
-    returns)
+state-from-spec = tie.close (tie.spec
+    (λ c κs. search needs) (λ c κs. search needs) (λ c. search needs) (λ c. search needs) (λ c. search needs) (λ c. search needs) (λ c κs. search needs)
+    (λ c κs. search needs) (λ c κs. search needs) (λ c κs. search needs) returns)

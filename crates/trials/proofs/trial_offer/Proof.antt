@@ -7,6 +7,4 @@ returns : tie.Need-returns
 returns c = (simp (c .offered-part .ensures, c .before .before .before .offer .ensures .0, c .before .before .before .before .before .state-from .ensures), simp (c .before .before .before .offer .ensures .1 .0, c .before .before .before .before .before .state-from .ensures))
 
 pub trial-offer-spec : {M : Type 1} → statement M
-trial-offer-spec =
-    tie.close
-    (tie.spec (λ c κs. search needs) (λ c κs. search needs) (λ c κs. search needs) (λ c. search needs) returns)
+trial-offer-spec = tie.close (tie.spec (λ c κs. search needs) (λ c κs. search needs) (λ c κs. search needs) (λ c. search needs) returns)

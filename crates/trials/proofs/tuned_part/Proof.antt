@@ -23,13 +23,4 @@ unfolding tunedPart
 returns-4 c = simp (ne-eqb (c .before .args .part) 0 (omega arith), ne-eqb (c .before .args .part) 1 (omega arith), ne-eqb (c .before .args .part) 2 (omega arith))
 
 pub tuned-part-spec : {M : Type 1} → statement M
-tuned-part-spec =
-    tie.close
-    (tie.spec
-    (λ c κs. search needs)
-    (λ c κs. search needs)
-    (λ c κs. search needs)
-    returns
-    returns-2
-    returns-3
-    returns-4)
+tuned-part-spec = tie.close (tie.spec (λ c κs. search needs) (λ c κs. search needs) (λ c κs. search needs) returns returns-2 returns-3 returns-4)

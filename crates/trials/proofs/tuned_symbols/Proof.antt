@@ -21,15 +21,5 @@ unfolding tunedSymbols
 returns-4 c = simp (c .enum-told3 .given .1)
 
 pub tuned-symbols-spec : {M : Type 1} → statement M
-tuned-symbols-spec =
-    tie.close
-    (tie.spec
-    (λ c. search needs)
-    (λ c. search needs)
-    (λ c. search needs)
-    (λ c. search needs)
-    (λ c. search needs)
-    returns
-    returns-2
-    returns-3
-    returns-4)
+tuned-symbols-spec = tie.close (tie.spec
+    (λ c. search needs) (λ c. search needs) (λ c. search needs) (λ c. search needs) (λ c. search needs) returns returns-2 returns-3 returns-4)
