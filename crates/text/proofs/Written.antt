@@ -49,6 +49,10 @@ then {out} {at} {t} {out'} {p} {u} {out''} {r} w x =
           x .holds ∙ ap (λ (l : List ℕ). put l p u) (w .holds) ∙ ap (λ (k : ℕ). put (put out at t) k u) (w .behind) ∙ put-then out at t u fits;
     }
 
+-- and it is short
+pub short : {out : List ℕ} {at : ℕ} {t out' : List ℕ} {r n : ℕ} → Wrote out at t out' r → r ≤ n → (r ≤ n) × Wrote out at t out' r
+short w h = (h, w)
+
 -- what was written is within the buffer
 pub counts : {out : List ℕ} {at : ℕ} {t out' : List ℕ} {r : ℕ} → Wrote out at t out' r → Counts r out'
 counts {out} {at} {t} {out'} {r} w =

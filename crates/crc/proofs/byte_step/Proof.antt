@@ -23,19 +23,9 @@ loop-holds c =
     let h : c .args .b * 2 ^ 24 % 2 ^ 32 < 2 ^ 32 = omega arith in
     (omega arith, xor-lt 32 (c .args .reg) _ (omega arith) h, crc-byte (c .args .reg) (c .args .b) (omega arith) (omega arith))
 
-loop-again : tie.Need-loop-again Inv-loop μ-loop
-unfolding shiftAll
-loop-again c =
-    let l = c .before .before .loop in
-    let e : 8 - l .counter ≡ suc (8 - (l .counter + 1)) = omega arith in
-    (omega arith, omega arith, rw (c .zero-bit .ensures) (rw e at (l .inv .2)))
-
-returns : tie.Need-returns Inv-loop μ-loop
-unfolding shiftAll
-returns c =
-    let l = c .before .loop in
-    let e : 8 - l .counter ≡ 0 = omega arith in
-    rw e at (l .inv .2)
-
 pub byte-step-spec : {M : Type 1} → statement M
-byte-step-spec = tie.close (tie.spec Inv-loop μ-loop loop-holds (λ c κs. search needs) (λ c. search needs) (λ c. search needs) loop-again returns)
+unfolding shiftAll
+byte-step-spec = tie.close (tie.spec Inv-loop μ-loop loop-holds (λ c κs. search needs) (λ c. search needs) (λ c. search needs)
+    (λ c. let l = c .before .before .loop in let e : 8 - l .counter
+    ≡ suc (8 - (l .counter + 1)) = omega arith in (omega arith, omega arith, rw (c .zero-bit .ensures) (rw e at (l .inv .2))))
+    (λ c. let l = c .before .loop in let e : 8 - l .counter ≡ 0 = omega arith in rw e at (l .inv .2)))

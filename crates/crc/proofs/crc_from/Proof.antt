@@ -16,9 +16,6 @@ Inv-loop start s e₀ i₀ e i = (i + 8 ≤ length s) × (e < 2 ^ 40) × (after 
 abbrev μ-loop : tie.MeasureT-loop
 μ-loop start s e₀ i₀ e i = length s - i
 
-returns : tie.Need-returns Inv-loop μ-loop
-returns c = c .crc-rest .ensures
-
 loop-holds : tie.Need-loop-holds Inv-loop μ-loop
 loop-holds c =
     let a = c .before .before .before .args in
@@ -37,12 +34,8 @@ loop-again c =
       after-goes-on s (λ j. omega (arith, b j)) (l .e) (f .result) (l .i) (omega arith) (f .ensures) (omega arith) ∙ l .inv .2,
     )
 
-returns-2 : tie.Need-returns-2 Inv-loop μ-loop
-returns-2 c =
-    let l = c .before .before .before .loop in
-    c .crc-rest2 .ensures ∙ rw (c .before .unfolded .ensures) (l .inv .2)
-
 pub crc-from-spec : {M : Type 1} → statement M
-crc-from-spec = tie.close (tie.spec
-    Inv-loop μ-loop (λ c κs. search needs) returns (λ c κs. search needs) (λ c. search needs) loop-holds (λ c. search needs) (λ c κs. search needs)
-    (λ c. search needs) (λ c. search needs) loop-again (λ c κs. search needs) (λ c. search needs) (λ c κs. search needs) returns-2)
+crc-from-spec = tie.close (tie.spec Inv-loop μ-loop (λ c κs. search needs) (λ c. c .crc-rest .ensures) (λ c κs. search needs) (λ c. search needs) loop-holds
+    (λ c. search needs) (λ c κs. search needs) (λ c. search needs) (λ c. search needs) loop-again (λ c κs. search needs) (λ c. search needs)
+    (λ c κs. search needs)
+    (λ c. let l = c .before .before .before .loop in c .crc-rest2 .ensures ∙ rw (c .before .unfolded .ensures) (l .inv .2)))

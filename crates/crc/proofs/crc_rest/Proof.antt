@@ -24,12 +24,8 @@ loop-again c =
     let h : l .i < length s = omega arith in
     (omega arith, omega arith, rw (c .byte-step .ensures, ← crc-append, add-one) (rw (drop-cons s (l .i) 0) at (l .inv .2)))
 
-returns : tie.Need-returns Inv-loop μ-loop
-returns c =
-    let l = c .before .loop in
-    let e : l .i ≡ length (c .before .before .before .args .s .now) = omega arith in
-    rw (e, drop-length, crc-nil) at (l .inv .2)
-
 pub crc-rest-spec : {M : Type 1} → statement M
-crc-rest-spec = tie.close (tie.spec
-    Inv-loop μ-loop (λ c. search needs) (λ c. search needs) (λ c κs. search needs) (λ c. search needs) (λ c. search needs) loop-again returns)
+crc-rest-spec = tie.close (tie.spec Inv-loop μ-loop (λ c. search needs) (λ c. search needs) (λ c κs. search needs) (λ c. search needs) (λ c. search needs)
+    loop-again
+    (λ c. let l = c .before .loop in let e : l .i ≡ length (c .before .before .before .args .s .now) = omega arith in
+    rw (e, drop-length, crc-nil) at (l .inv .2)))
