@@ -1,15 +1,12 @@
 -- The two kinds of a table's line, and the line of a channel as the one that its list holds.
 use Prim.Native.Nat.{ℕ, _≤_}
-use native.Mathlib.Nat.{add-zero}
-use native.Mathlib.Omega.{arith}
+use native.Mathlib.{Nat.add-zero, Omega.arith}
 use mathlib.Core.Path.{_≡_, sym, ap, _∙_}
 use mathlib.Core.List.{List, [], _∷_, _++_, flatten, append-nil, append-assoc}
 use lib.ListN.{length, take, drop, take-append-drop}
 use borrow.Author.Tests.{eq-eqb, ne-eqb}
-use Rattle.rules.specs.Holding.{put}
+use Rattle.rules.specs.{Holding.put, declared.LiveVersion.LiveVersion, declared.Tuned.Tuned}
 use Rattle.rules.specs.Lineup.{text, decimal, version, channelLine}
-use Rattle.rules.specs.declared.LiveVersion.{LiveVersion}
-use Rattle.rules.specs.declared.Tuned.{Tuned}
 use Rattle.text.specs.Written.{Wrote, lineOf}
 
 module _ {out : List ℕ} {at : ℕ} {out' : List ℕ} {r : ℕ} (key : List ℕ) (l : LiveVersion) where

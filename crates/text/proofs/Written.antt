@@ -1,8 +1,7 @@
 -- One text written behind another is the two in a row, so each line is a chain of `then`; and a decimal number digit by digit.
 use Prim.Native.Nat.{ℕ, zero, suc, _+_, _/_, _%_, _^_, _≤_, _<_}
 use native.Mathlib.Nat.{mod-eq-of-lt, div-lt-iff-lt-mul, add-assoc, pow-suc}
-use native.Mathlib.Numerals.{add-one}
-use native.Mathlib.Omega.{arith}
+use native.Mathlib.{Numerals.add-one, Omega.arith}
 use mathlib.Core.Path.{_≡_, sym, ap, _∙_, subst}
 use mathlib.Core.Bool.{Bool, true, false, cond}
 use mathlib.Core.List.{List, [], _∷_, _++_, append-assoc}
@@ -10,8 +9,7 @@ use lib.Dec.{ltb, lit<}
 use lib.ListN.{length, take, drop, set, length-append}
 use lib.Seq.{length-take-le, take-at, drop-append-add, drop-drop, set-split}
 use borrow.Author.Tests.{lt-ltb, le-ltb}
-use Rattle.rules.specs.Holding.{put}
-use Rattle.rules.specs.Lineup.{digits, decimal}
+use Rattle.rules.specs.{Holding.put, Lineup.digits, Lineup.decimal}
 use Rattle.rules.proofs.Store.{put-length}
 use Rattle.text.specs.Written.{Wrote, Counts}
 

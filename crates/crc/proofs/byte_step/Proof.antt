@@ -1,19 +1,16 @@
 -- `crc::byte_step` meets its contract: the zero bits that are left make of r what the byte makes of the register.
-use mathlib.Core.Path.{_≡_}
-use mathlib.Core.List.{[], _∷_}
+use mathlib.Core.{Path._≡_, List.[], List._∷_}
 use Prim.Native.Nat.{suc, _+_, _-_, _*_, _%_, _^_, _≤_, _<_}
 use native.Mathlib.Omega.{arith}
 use borrow.Author.Needs.{needs}
-use lib.ListN.{replicate}
-use lib.Bits.{xor-lt}
+use lib.{ListN.replicate, Bits.xor-lt}
 use Rattle.rules.specs.Crc.{shiftAll, crcFrom}
 use Rattle.crc.proofs.Laws.{crc-byte}
 use Rattle.crc.proofs.byte_step.Statement.{statement}
 use Rattle.crc.proofs.byte_step.Tie as tie
 
 abbrev Inv-loop : tie.InvT-loop
-Inv-loop reg b r₀ counter₀ r counter =
-    (counter ≤ 8) × (r < 2 ^ 32) × (shiftAll r (replicate (8 - counter) 0) ≡ crcFrom reg (b ∷ []))
+Inv-loop reg b r₀ counter₀ r counter = (counter ≤ 8) × (r < 2 ^ 32) × (shiftAll r (replicate (8 - counter) 0) ≡ crcFrom reg (b ∷ []))
 
 abbrev μ-loop : tie.MeasureT-loop
 μ-loop reg b r₀ counter₀ r counter = 8 - counter

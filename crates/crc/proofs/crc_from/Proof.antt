@@ -18,8 +18,7 @@ abbrev μ-loop : tie.MeasureT-loop
 
 loop-holds : tie.Need-loop-holds Inv-loop μ-loop
 loop-holds c =
-    let a = c .before .before .before .args in
-    let b = c .before .before .shared-slice-known .given in
+    let a = c .before .before .before .args in let b = c .before .before .shared-slice-known .given in
     let f = c .four-zeros in
     (omega arith, omega arith, after-starts (a .s .now) (λ j. omega (arith, b j)) (a .start) (f .result) (omega arith) (f .ensures) (omega arith))
 

@@ -1,10 +1,8 @@
 -- `crc::crc_rest` meets its contract: what is left of s makes of the register what s makes of the start.
 use mathlib.Core.Path.{_≡_}
 use Prim.Native.Nat.{_-_, _^_, _≤_, _<_}
-use native.Mathlib.Numerals.{add-one}
-use native.Mathlib.Omega.{arith}
-use lib.ListN.{length, drop}
-use lib.Seq.{drop-cons, drop-length}
+use native.Mathlib.{Numerals.add-one, Omega.arith}
+use lib.{ListN.length, ListN.drop, Seq.drop-cons, Seq.drop-length}
 use borrow.Author.Needs.{needs}
 use Rattle.rules.specs.Crc.{crcFrom}
 use Rattle.crc.proofs.Laws.{crc-nil, crc-append}

@@ -1,6 +1,5 @@
 -- `crc::times_112` meets its contract: the bits that are left of k make of r the product.
-use mathlib.Core.Path.{refl}
-use mathlib.Core.Logic.{inl, inr, ⊎-elim}
+use mathlib.Core.{Path.refl, Logic.inl, Logic.inr, Logic.⊎-elim}
 use Prim.Native.Nat.{_-_}
 use native.Mathlib.Omega.{arith}
 use borrow.Author.Needs.{needs}

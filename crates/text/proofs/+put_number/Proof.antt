@@ -1,8 +1,7 @@
 -- What stands before the last digit is written by the call of itself, on a smaller number.
-use native.Mathlib.Omega.{arith}
+use native.Mathlib.{Omega.arith, Nat.div-lt-self}
 use borrow.Author.Needs.{needs}
 use Prim.Native.Nat.{ℕ, _<_, _/_}
-use native.Mathlib.Nat.{div-lt-self}
 use mathlib.Core.Path.{ap, sym, _∙_, subst}
 use mathlib.Core.List.{List, [], _∷_, _++_}
 use lib.ListN.{length}
@@ -16,19 +15,16 @@ use Rattle.text.proofs.put_number.Kinds as put-number-kinds
 use Rattle.text.proofs.+put_number.Lts-put_number as put-number-lts
 use Rattle.text.proofs.digit.Reads as digit-reads
 use Rattle.text.proofs.put_byte.Reads as put-byte-reads
-use Rattle.text.proofs.+put_number.{statement}
-use Rattle.text.proofs.+put_number.Tie.{close}
+use Rattle.text.proofs.{+put_number.statement, +put_number.Tie.close}
 
 abbrev μ-put-number : Measures 1 put-number-kinds.ps ℕ
 μ-put-number κs a = a .1 .1 .0
 
 abbrev put-number-at : ℕ → In 1 put-number-kinds.ps
-put-number-at t =
-    and 1 put-number-kinds.ps (is 1 put-number-kinds.ps μ-put-number t) put-number.Pre
+put-number-at t = and 1 put-number-kinds.ps (is 1 put-number-kinds.ps μ-put-number t) put-number.Pre
 
 abbrev put-number-below : ℕ → In 1 put-number-kinds.ps
-put-number-below t =
-    and 1 put-number-kinds.ps (falls 1 put-number-kinds.ps _<_ μ-put-number t) put-number.Pre
+put-number-below t = and 1 put-number-kinds.ps (falls 1 put-number-kinds.ps _<_ μ-put-number t) put-number.Pre
 
 pub +put-number-spec : {M : Type 1} → statement M
 +put-number-spec = close μ-put-number λ t. put-number-lts.spec

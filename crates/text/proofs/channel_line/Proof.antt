@@ -1,7 +1,6 @@
 -- The line is the one of the answer's kind; a channel that is refused has none.
 use native.Mathlib.Omega.{arith}
-use mathlib.Core.Path.{refl}
-use mathlib.Core.List.{flatten}
+use mathlib.Core.{Path.refl, List.flatten}
 use Rattle.rules.specs.Lineup.{text, field, front, channelLine}
 use Rattle.text.specs.Written.{fieldOf, frontOf, khzFront}
 use Rattle.text.proofs.Lines.{nothing, line-of}

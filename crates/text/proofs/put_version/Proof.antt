@@ -2,8 +2,7 @@
 use native.Mathlib.Omega.{arith}
 use denote.Ref.{now}
 use Rattle.rules.specs.Lineup.{text}
-use Rattle.text.proofs.Written.{then, short}
-use Rattle.text.proofs.Lines.{is-live, is-not-live}
+use Rattle.text.proofs.{Written.then, Written.short, Lines.is-live, Lines.is-not-live}
 use borrow.Author.Needs.{needs}
 use Rattle.text.proofs.put_version.Statement.{statement}
 use Rattle.text.proofs.put_version.Tie as tie

@@ -1,7 +1,6 @@
 -- Part 5 is the answer, every other one the state's.
-use borrow.Author.Tests.{eq-eqb, ne-eqb}
+use borrow.Author.{Tests.eq-eqb, Tests.ne-eqb, Needs.needs}
 use Rattle.trials.specs.Coded.{offeredPart}
-use borrow.Author.Needs.{needs}
 use Rattle.trials.proofs.offered_part.Statement.{statement}
 use Rattle.trials.proofs.offered_part.Tie as tie
 

@@ -1,8 +1,7 @@
 -- One arm for each part.
-use borrow.Author.Tests.{ne-eqb}
+use borrow.Author.{Tests.ne-eqb, Needs.needs}
 use Rattle.trials.specs.Coded.{statePart}
 use native.Mathlib.Omega.{arith}
-use borrow.Author.Needs.{needs}
 use Rattle.trials.proofs.state_part.Statement.{statement}
 use Rattle.trials.proofs.state_part.Tie as tie
 

@@ -1,8 +1,7 @@
 -- One arm for each part.
-use borrow.Author.Tests.{ne-eqb}
+use borrow.Author.{Tests.ne-eqb, Needs.needs}
 use native.Mathlib.Omega.{arith}
 use Rattle.trials.specs.Coded.{tunedPart}
-use borrow.Author.Needs.{needs}
 use Rattle.trials.proofs.tuned_part.Statement.{statement}
 use Rattle.trials.proofs.tuned_part.Tie as tie
 
