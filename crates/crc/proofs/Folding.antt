@@ -3,18 +3,14 @@
 use mathlib.Core.Path.{_≡_, refl, sym, ap, ap₂, _∙_}
 use mathlib.Core.List.{List, [], _∷_}
 use Prim.Native.Nat.{ℕ, zero, suc, _+_, _*_, _/_, _%_, _^_, _≤_, _<_}
-use native.Mathlib.Numerals.{add-one}
-use native.Mathlib.Omega.{arith}
-use lib.Dec.{lit<}
+use native.Mathlib.{Numerals.add-one, Omega.arith}
+use lib.{Dec.lit<, Seq.drop-cons, Pow.split, Pow.high, Pow.low}
 use lib.ListN.{length, drop, getD, replicate}
-use lib.Seq.{drop-cons}
-use lib.Pow.{split, high, low}
 use lib.Bits.{bitOr, bitXor, or-shifted, xor-comm, xor-shr, xor-mod, xor-lt, xor-block, xor-shifted}
 use Rattle.rules.specs.Crc.{polynomial, shift, bitsOf, shiftAll, crcFrom}
 use Rattle.crc.specs.Folding.{zeros, residue, four, fourAt, eightAt, Folded}
-use Rattle.crc.proofs.Xor.{xor-assoc, xor-pairs}
+use Rattle.crc.proofs.{Xor.xor-assoc, Xor.xor-pairs, Laws.crc-append, Laws.crc-lt, Laws.crc-four}
 use Rattle.crc.proofs.Turns.{turn, turns, turns-lt, turns-joined}
-use Rattle.crc.proofs.Laws.{crc-append, crc-lt, crc-four}
 
 -- ---- zero bytes and what the polynomial leaves, of two numbers joined
 
@@ -29,8 +25,7 @@ pub zeros-joined : (n a b : ℕ) → a < 2 ^ 32 → b < 2 ^ 32 → zeros n (bitX
 unfolding crcFrom bitsOf shiftAll
 zeros-joined zero a b ha hb = refl
 zeros-joined (suc n) a b ha hb =
-    let t = turns 31 polynomial 8 in
-    let lt = turns-lt 31 polynomial (lit< tt) 8 in
+    let t = turns 31 polynomial 8 in let lt = turns-lt 31 polynomial (lit< tt) 8 in
     zero-byte n (bitXor a b)
     ∙ ap (zeros n) (turns-joined 31 polynomial (lit< tt) 8 a b ha hb)
     ∙ zeros-joined n (t a) (t b) (lt a ha) (lt b hb)
@@ -48,8 +43,7 @@ residue-joined a b ha hb =
 
 pub folded-joined : {a b x y : ℕ} → a < 2 ^ 64 → b < 2 ^ 64 → Folded a x → Folded b y → Folded (bitXor a b) (bitXor x y)
 folded-joined {a} {b} {x} {y} ha hb f g =
-    let hx = f .small in
-    let hy = g .small in
+    let hx = f .small in let hy = g .small in
     record {
       small = xor-lt 40 x y hx hy;
       same =
@@ -68,9 +62,7 @@ folded-above j k {n} h hn hk f g = rw (← xor-shifted k j n h, xor-comm (k * 2 
 pub residue-small : (e : ℕ) → e < 2 ^ 32 → residue e ≡ e
 unfolding residue crcFrom bitsOf shiftAll shift
 residue-small e h =
-    let u : e / 2 ^ 32 ≡ 0 = omega arith in
-    let l : e % 2 ^ 32 ≡ e = omega arith in
-    ap₂ (λ (x y : ℕ). bitXor (zeros 4 x) y) u l
+    let u : e / 2 ^ 32 ≡ 0 = omega arith in let l : e % 2 ^ 32 ≡ e = omega arith in ap₂ (λ (x y : ℕ). bitXor (zeros 4 x) y) u l
 
 pub residue-halves : (e h l : ℕ) → l < 2 ^ 32
     → bitXor (zeros 4 (bitXor (e / 2 ^ 32) h)) (bitXor (e % 2 ^ 32) l) ≡ residue (bitXor e (h * 2 ^ 32 + l))
@@ -81,8 +73,7 @@ residue-halves e h l hl = rw (xor-shr e (h * 2 ^ 32 + l) 32, xor-mod e (h * 2 ^ 
 eight-joined : (e a b c d l : ℕ) → e < 2 ^ 40 → d < 256 → l < 2 ^ 32
     → four a b c (bitXor (e / 2 ^ 32) d) * 2 ^ 32 + bitXor (e % 2 ^ 32) l ≡ bitXor e (four a b c d * 2 ^ 32 + l)
 eight-joined e a b c d l he hd hl =
-    let u = e / 2 ^ 32 in
-    let t = a * 2 ^ 16 + b * 2 ^ 8 + c in
+    let u = e / 2 ^ 32 in let t = a * 2 ^ 16 + b * 2 ^ 8 + c in
     let z : u ≡ 0 * 2 ^ 8 + u = omega arith in
     let n : four a b c d ≡ t * 2 ^ 8 + d = omega arith in
     let p : bitXor u (four a b c d) ≡ t * 2 ^ 8 + bitXor u d = ap₂ bitXor z n ∙ xor-block 8 0 t u d (omega arith) hd in
@@ -131,9 +122,7 @@ module _ (s : List ℕ) (bytes : (j : ℕ) → getD s j 0 < 256) where
   four-next : (r i : ℕ) → r < 2 ^ 32 → i + 4 ≤ length s → crcFrom r (drop i s) ≡ crcFrom (zeros 4 (bitXor r (fourAt s i))) (drop (i + 4) s)
   unfolding fourAt
   four-next r i hr h =
-      let a = getD s i 0 in
-      let b = getD s (i + 1) 0 in
-      let c = getD s (i + 2) 0 in
+      let a = getD s i 0 in let b = getD s (i + 1) 0 in let c = getD s (i + 2) 0 in
       let d = getD s (i + 3) 0 in
       ap (crcFrom r)
       (next s i (i + 1) (omega arith) refl
@@ -149,10 +138,7 @@ module _ (s : List ℕ) (bytes : (j : ℕ) → getD s j 0 < 256) where
   eight-next : (r e i : ℕ) → r < 2 ^ 32 → e < 2 ^ 64 → residue e ≡ zeros 4 r → i + 8 ≤ length s → after s e i ≡ crcFrom r (drop i s)
   unfolding eightAt residue
   eight-next r e i hr he same h =
-      let u = fourAt s i in
-      let l = fourAt s (i + 4) in
-      let hu = four-lt i in
-      let hl = four-lt (i + 4) in
+      let u = fourAt s i in let l = fourAt s (i + 4) in let hu = four-lt i in let hl = four-lt (i + 4) in
       let j : i + 4 + 4 ≡ i + 8 = omega arith in
       let d : residue (u * 2 ^ 32 + l) ≡ bitXor (zeros 4 u) l =
       ap₂ (λ (x y : ℕ). bitXor (zeros 4 x) y) (high u 32 hl) (low u 32 hl) in
@@ -167,18 +153,13 @@ module _ (s : List ℕ) (bytes : (j : ℕ) → getD s j 0 < 256) where
       j)
 
   pub after-starts : (r e : ℕ) → r < 2 ^ 32 → e ≡ zeros 4 r → 8 ≤ length s → after s e 0 ≡ crcFrom r s
-  after-starts r e hr p h =
-      let he : e < 2 ^ 32 = rw p (zeros-lt 4 r hr) in
-      eight-next r e 0 hr (omega arith) (residue-small e he ∙ p) h
+  after-starts r e hr p h = let he : e < 2 ^ 32 = rw p (zeros-lt 4 r hr) in eight-next r e 0 hr (omega arith) (residue-small e he ∙ p) h
 
   pub after-goes-on : (e e' i : ℕ) → e < 2 ^ 40 → Folded (bitXor e (eightAt s i)) e' → i + 16 ≤ length s → after s e' (i + 8) ≡ after s e i
   unfolding eightAt
   after-goes-on e e' i he f h =
-      let w = bitXor e (eightAt s i) in
-      let hu = four-lt i in
-      let hl = four-lt (i + 4) in
+      let w = bitXor e (eightAt s i) in let hu = four-lt i in let hl = four-lt (i + 4) in
       let hw : w < 2 ^ 64 = xor-lt 64 e (eightAt s i) (omega arith) (omega arith) in
-      let hr = residue-lt w hw in
-      let hs = f .small in
+      let hr = residue-lt w hw in let hs = f .small in
       eight-next (zeros 4 (residue w)) e' (i + 8) (zeros-lt 4 (residue w) hr) (omega arith)
       (f .same ∙ crc-append (residue w) (replicate 4 0) (replicate 4 0)) (omega arith)

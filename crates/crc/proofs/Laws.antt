@@ -4,9 +4,7 @@ use mathlib.Core.Path.{_≡_, refl, sym, ap, ap₂, _∙_}
 use mathlib.Core.List.{List, [], _∷_, _++_}
 use Prim.Native.Nat.{ℕ, _+_, _*_, _/_, _%_, _^_, _<_}
 use native.Mathlib.Omega.{arith}
-use lib.Dec.{lit<}
-use lib.ListN.{replicate}
-use lib.Bits.{bitXor, xor-zero-r}
+use lib.{Dec.lit<, ListN.replicate, Bits.bitXor, Bits.xor-zero-r}
 use Rattle.rules.specs.Crc.{start, shift, bitsOf, shiftAll, crcFrom, crcOf}
 use Rattle.crc.proofs.Linear.{tops, up, shift-lt, joined, own}
 
@@ -48,8 +46,7 @@ up-byte v h = omega arith
 pub crc-byte : (r b : ℕ) → r < 2 ^ 32 → b < 256 → shiftAll (bitXor r (b * 2 ^ 24 % 2 ^ 32)) (replicate 8 0) ≡ crcFrom r (b ∷ [])
 unfolding up crcFrom
 crc-byte r b hr hb =
-    let v = b * 2 ^ 24 % 2 ^ 32 in
-    let t = top-byte v b (omega arith) (omega arith) in
+    let v = b * 2 ^ 24 % 2 ^ 32 in let t = top-byte v b (omega arith) (omega arith) in
     let m : up 8 v ≡ 0 = omega arith in
     joined 8 r v hr (omega arith) ∙ rw (m, xor-zero-r, t)
 
@@ -73,16 +70,10 @@ pub crc-four : (r a b c d : ℕ) → r < 2 ^ 32 → a < 256 → b < 256 → c < 
     → crcFrom r (a ∷ b ∷ c ∷ d ∷ []) ≡ crcFrom (bitXor r (a * 2 ^ 24 + b * 2 ^ 16 + c * 2 ^ 8 + d)) (0 ∷ 0 ∷ 0 ∷ 0 ∷ [])
 unfolding crcFrom bitsOf shiftAll
 crc-four r a b c d hr ha hb hc hd =
-    let v = a * 2 ^ 24 + b * 2 ^ 16 + c * 2 ^ 8 + d in
-    let v₁ = b * 2 ^ 24 + c * 2 ^ 16 + d * 2 ^ 8 in
-    let v₂ = c * 2 ^ 24 + d * 2 ^ 16 in
-    let v₃ = d * 2 ^ 24 in
-    let r₁ = crcFrom r (a ∷ []) in
-    let r₂ = crcFrom r₁ (b ∷ []) in
-    let r₃ = crcFrom r₂ (c ∷ []) in
-    let h₁ = crc-lt r (a ∷ []) hr in
-    let h₂ = crc-lt r₁ (b ∷ []) h₁ in
-    let h₃ = crc-lt r₂ (c ∷ []) h₂ in
+    let v = a * 2 ^ 24 + b * 2 ^ 16 + c * 2 ^ 8 + d in let v₁ = b * 2 ^ 24 + c * 2 ^ 16 + d * 2 ^ 8 in
+    let v₂ = c * 2 ^ 24 + d * 2 ^ 16 in let v₃ = d * 2 ^ 24 in
+    let r₁ = crcFrom r (a ∷ []) in let r₂ = crcFrom r₁ (b ∷ []) in let r₃ = crcFrom r₂ (c ∷ []) in
+    let h₁ = crc-lt r (a ∷ []) hr in let h₂ = crc-lt r₁ (b ∷ []) h₁ in let h₃ = crc-lt r₂ (c ∷ []) h₂ in
     sym
     (joined-byte r v a v₁ (0 ∷ 0 ∷ 0 ∷ []) hr (omega arith) (omega arith) (omega arith)
     ∙ joined-byte r₁ v₁ b v₂ (0 ∷ 0 ∷ []) h₁ (omega arith) (omega arith) (omega arith)

@@ -6,9 +6,7 @@ use mathlib.Core.Bool.{Bool, true, false, cond}
 use mathlib.Core.List.{List, [], _∷_}
 use Prim.Native.Nat.{ℕ, zero, suc, _*_, _/_, _%_, _^_, _<_}
 use native.Mathlib.Omega.{arith}
-use lib.Dec.{eqb, lit<}
-use lib.ListN.{replicate}
-use lib.Bits.{bitXor, xor-shr, xor-lt}
+use lib.{Dec.eqb, Dec.lit<, ListN.replicate, Bits.bitXor, Bits.xor-shr, Bits.xor-lt}
 use borrow.Author.Tests.{eq-eqb}
 use Rattle.rules.specs.Crc.{polynomial, shift, shiftAll}
 use Rattle.crc.proofs.Xor.{bit-cases, xor-swap, xor-double}

@@ -1,19 +1,16 @@
 -- The product of a byte with what the polynomial leaves of a power stands for the byte at its place with eight zero bytes behind it.
 -- Both are joined from what they are at single bits, so it is enough to work the law out at the powers of 2.
 use mathlib.Core.Path.{_≡_, refl, sym, ap, _∙_}
-use mathlib.Core.List.{List, [], _∷_}
+use mathlib.Core.{Logic._⊎_, Logic.⊎-elim, List.List, List.[], List._∷_}
 use Prim.Native.Nat.{ℕ, zero, suc, _+_, _-_, _*_, _/_, _%_, _^_, _≤_, _<_}
 use native.Mathlib.Nat.{mod-lt, zero-mul, one-mul, lt-of-lt-of-le}
 use native.Mathlib.Omega.{arith}
-use lib.Arith.{lt-one}
-use lib.Dec.{lit<, lit≤}
+use lib.{Arith.lt-one, Dec.lit<, Dec.lit≤, Bits.bitXor, Bits.xor-shifted}
 use lib.Pow.{pow-pos, pow-mono, pow-lt, split, shl-lt, shr-lt}
-use lib.Bits.{bitXor, xor-shifted}
 use borrow.Author.Tests.{eq-eqb, ne-eqb}
 use Rattle.rules.specs.Crc.{shift, bitsOf, shiftAll, crcFrom}
 use Rattle.crc.specs.Folding.{zeros, residue, Folded}
-use Rattle.crc.proofs.Xor.{bit-cases, xor-shl}
-use Rattle.crc.proofs.Turns.{turn, turns, turns-joined}
+use Rattle.crc.proofs.{Xor.bit-cases, Xor.xor-shl, Turns.turn, Turns.turns, Turns.turns-joined}
 use Rattle.crc.proofs.Folding.{zeros-lt, residue-lt, folded-joined}
 
 -- what the polynomial leaves of the power that has m zero bits and eight zero bytes behind its 1
@@ -95,26 +92,25 @@ pub record Turning (m k r n : ℕ) : Type 0 where
   pub within : n ≤ 8
   pub left : turns 63 (power m) (8 - n) r ≡ times m k
 
-pub starts : (m k : ℕ) → k < 256 → Turning m k (k * 2 ^ 56 % 2 ^ 64) 0
+pub starts : {m k : ℕ} → k < 256 → Turning m k (k * 2 ^ 56 % 2 ^ 64) 0
 unfolding times
-starts m k h =
-    let e : k * 2 ^ 56 % 2 ^ 64 ≡ k * 2 ^ 56 = omega arith in
-    record { within = lit≤ tt; left = ap (turns 63 (power m) 8) e }
+starts {m} {k} h = let e : k * 2 ^ 56 % 2 ^ 64 ≡ k * 2 ^ 56 = omega arith in record { within = lit≤ tt; left = ap (turns 63 (power m) 8) e }
 
 goes-on : {m k r r' n : ℕ} → Turning m k r n → n < 8 → r' ≡ turn 63 (power m) r → Turning m k r' (n + 1)
 unfolding turns
-goes-on {n = n} l h e =
-    let d : 8 - n ≡ suc (8 - (n + 1)) = omega arith in
-    record { within = omega arith; left = rw e (rw d at (l .left)) }
+goes-on {n = n} l h e = let d : 8 - n ≡ suc (8 - (n + 1)) = omega arith in record { within = omega arith; left = rw e (rw d at (l .left)) }
 
-pub high : {m k r r' n : ℕ} → Turning m k r n → n < 8 → 2 ^ 63 ≤ r → r' ≡ bitXor (r * 2 % 2 ^ 64) (power m) → Turning m k r' (n + 1)
-high {m} {k} {r} l h hr e = goes-on l h (e ∙ sym (turn-high (power m) r hr))
-
-pub low : {m k r r' n : ℕ} → Turning m k r n → n < 8 → r < 2 ^ 63 → r' ≡ r * 2 % 2 ^ 64 → Turning m k r' (n + 1)
-low {m} {k} {r} l h hr e = goes-on l h (e ∙ sym (turn-low (power m) r hr))
+-- the bit that leaves is 1, or 0
+pub turned : {m k r r' n : ℕ} → Turning m k r n → n < 8
+    → ((2 ^ 63 ≤ r) × (r' ≡ bitXor (r * 2 % 2 ^ 64) (power m))) ⊎ ((r < 2 ^ 63) × (r' ≡ r * 2 % 2 ^ 64)) → Turning m k r' (n + 1)
+turned {m} {k} {r} l h =
+    ⊎-elim (λ w. goes-on l h (w .1 ∙ sym (turn-high (power m) r (w .0)))) (λ w. goes-on l h (w .1 ∙ sym (turn-low (power m) r (w .0))))
 
 pub ends : {m k r n : ℕ} → Turning m k r n → 8 ≤ n → k < 256 → m ≤ 56 → worked m 8 ≡ wanted m 8 → Folded (k * 2 ^ m) r
 unfolding turns
-ends {m} {k} {r} {n} l h hk hm e =
-    let d : 8 - n ≡ 0 = omega arith in
-    rw (rw d at (l .left)) (below m hm 8 (omega arith) e k hk)
+ends {m} {k} {r} {n} l h hk hm e = let d : 8 - n ≡ 0 = omega arith in rw (rw d at (l .left)) (below m hm 8 (omega arith) e k hk)
+
+-- under `unfolding powers` a power and its products are worked out
+unfoldable pub powers : Unit {0}
+unfolding worked wanted times turns turn power residue crcFrom bitsOf shiftAll shift
+powers = tt

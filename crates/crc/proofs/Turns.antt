@@ -4,8 +4,7 @@ use mathlib.Core.Path.{_≡_, refl, sym, ap, _∙_}
 use mathlib.Core.Bool.{Bool, true, false, cond}
 use Prim.Native.Nat.{ℕ, zero, suc, _+_, _*_, _/_, _%_, _^_, _<_}
 use native.Mathlib.Nat.{mod-lt}
-use lib.Dec.{eqb}
-use lib.Pow.{pow-pos, shr-lt}
+use lib.{Dec.eqb, Pow.pow-pos, Pow.shr-lt}
 use lib.Bits.{bitXor, xor-shr, xor-lt, xor-zero-r, xor-self}
 use Rattle.crc.proofs.Xor.{bit-cases, xor-swap, xor-assoc, xor-pairs, xor-double}
 

@@ -2,10 +2,8 @@
 -- Bit by bit: a number is its half and its lowest bit, and a fact of single bits holds at 0 and at 1 by computation.
 use mathlib.Core.Path.{_≡_, refl, sym, ap, ap₂, _∙_}
 use Prim.Native.Nat.{ℕ, zero, suc, _+_, _*_, _/_, _%_, _^_, _<_}
-use native.Mathlib.Nat.{add-zero}
-use native.Mathlib.Omega.{arith}
-use lib.Arith.{bin-ind}
-use lib.Pow.{pow-pos}
+use native.Mathlib.{Nat.add-zero, Omega.arith}
+use lib.{Arith.bin-ind, Pow.pow-pos}
 use lib.Bits.{bitXor, differ, xor-step, xor-block, xor-shr, xor-mod, xor-comm}
 
 -- a number below 2 is 0 or 1
@@ -16,16 +14,12 @@ bit-cases P p0 p1 (suc (suc n)) h = absurd (omega arith)
 
 bits-swap : (x : ℕ) → x < 2 → (y : ℕ) → y < 2 → (z : ℕ) → z < 2 → differ (bitXor x y) z ≡ differ (bitXor x z) y
 bits-swap =
-    bit-cases _
-    (bit-cases _ (bit-cases _ refl refl) (bit-cases _ refl refl))
-    (bit-cases _ (bit-cases _ refl refl) (bit-cases _ refl refl))
+    bit-cases _ (bit-cases _ (bit-cases _ refl refl) (bit-cases _ refl refl)) (bit-cases _ (bit-cases _ refl refl) (bit-cases _ refl refl))
 
 -- the halves and the lowest bits of three
 xor-step₃ : (a b c : ℕ)
     → bitXor (bitXor a b) c ≡ bitXor (bitXor (a / 2) (b / 2)) (c / 2) * 2 + differ (bitXor (a % 2) (b % 2)) (c % 2)
-xor-step₃ a b c =
-    xor-step (bitXor a b) c
-    ∙ ap₂ (λ (x y : ℕ). bitXor x (c / 2) * 2 + differ y (c % 2)) (xor-shr a b 1) (xor-mod a b 1)
+xor-step₃ a b c = xor-step (bitXor a b) c ∙ ap₂ (λ (x y : ℕ). bitXor x (c / 2) * 2 + differ y (c % 2)) (xor-shr a b 1) (xor-mod a b 1)
 
 pub xor-swap : (a b c : ℕ) → bitXor (bitXor a b) c ≡ bitXor (bitXor a c) b
 xor-swap =
@@ -39,8 +33,7 @@ pub xor-assoc : (a b c : ℕ) → bitXor (bitXor a b) c ≡ bitXor a (bitXor b c
 xor-assoc a b c = ap (λ (x : ℕ). bitXor x c) (xor-comm a b) ∙ xor-swap b a c ∙ xor-comm (bitXor b c) a
 
 pub xor-pairs : (a b c d : ℕ) → bitXor (bitXor a b) (bitXor c d) ≡ bitXor (bitXor a c) (bitXor b d)
-xor-pairs a b c d =
-    sym (xor-assoc (bitXor a b) c d) ∙ ap (λ (x : ℕ). bitXor x d) (xor-swap a b c) ∙ xor-assoc (bitXor a c) b d
+xor-pairs a b c d = sym (xor-assoc (bitXor a b) c d) ∙ ap (λ (x : ℕ). bitXor x d) (xor-swap a b c) ∙ xor-assoc (bitXor a c) b d
 
 pub xor-shl : (k a b : ℕ) → bitXor a b * 2 ^ k ≡ bitXor (a * 2 ^ k) (b * 2 ^ k)
 xor-shl k a b =

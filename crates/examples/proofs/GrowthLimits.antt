@@ -10,7 +10,8 @@ use Rattle.rules.specs.Descriptors.{Descriptor}
 use Rattle.rules.specs.Section.{Content, wrong, right}
 use Rattle.rules.specs.Form.{form}
 use Rattle.rules.specs.Parts.{Piece, Shaped, Fair}
-use Rattle.rules.specs.Growth.{empty, kept, added, SameTag, GrownRevision, stays, other, GrownClosing, FullerPieces, end, GrownParts, Grown, Untouched, OtherProtocol}
+use Rattle.rules.specs.Growth.{empty, kept, added, SameTag, GrownRevision, stays, other, GrownClosing, FullerPieces, end, GrownParts, Grown}
+use Rattle.rules.specs.Growth.{Untouched, OtherProtocol}
 use Rattle.rules.specs.declared.Table.the-variants.{Cds, Vcm, Dcm}
 use Rattle.rules.proofs.Hex.{hex}
 use Rattle.rules.proofs.Truths.{differ, unlike, not-most}
@@ -60,7 +61,9 @@ pub record GrowthLimits : Type 0 where
   pub other-header : GrownParts (parts 0xC2 0x30 (0 ∷ []) [] []) (parts 0xC2 0x30 (1 ∷ []) [] []) → ⊥
   pub other-head : GrownParts (parts 0xC2 0x30 [] (0 ∷ []) []) (parts 0xC2 0x30 [] (1 ∷ []) []) → ⊥
   pub other-records : GrownParts (parts 0xC2 0x30 [] [] record1) (parts 0xC2 0x30 [] [] []) → ⊥
-  pub other-closing : GrownParts (parts 0xC2 0x30 [] [] []) (record { number = 0xC2; flags = 0x30; low = 0x10; header = []; head = []; pieces = []; closing = [] }) → ⊥
+  pub other-closing : GrownParts (parts 0xC2 0x30 [] [] [])
+      (record { number = 0xC2; flags = 0x30; low = 0x10; header = []; head = []; pieces = []; closing = [] })
+      → ⊥
   -- ---- the first section reads right; the grown one has a right L and a right CRC
   pub not-right : (g : List ℕ) → Grown (hex "C2 30") g → ⊥
   pub not-fitting : Grown carriersPlain (hex "C2 30") → ⊥

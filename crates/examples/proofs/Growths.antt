@@ -2,15 +2,17 @@
 -- its records have lists, into those; a longer revision descriptor and other reserved bits; in one, other bodies of descriptors that the box
 -- doesn't know; and the example plant, grown whole. By computation.
 use Prim.Native.Nat.{ℕ}
+use Prim.Native.String.{String}
 use native.Mathlib.Omega.{arith}
 use mathlib.Core.Path.{_≡_, refl}
-use mathlib.Core.List.{List, [], _∷_, map}
+use mathlib.Core.List.{List, [], _∷_, _++_, map}
 use Rattle.rules.specs.Descriptors.{Descriptor}
 use Rattle.rules.specs.Form.{form}
 use Rattle.rules.specs.Section.{Structure, Content}
-use Rattle.rules.specs.Parts.{Shaped, Fair}
+use Rattle.rules.specs.Parts.{Piece, Parts, Shaped, Fair}
 use Rattle.rules.specs.Parts as Parts
-use Rattle.rules.specs.Growth.{empty, kept, added, GrownRevision, stays, other, revised, end, next, GrownParts, Grown, GrownRun, grown, Told, told, Untouched, OtherProtocol}
+use Rattle.rules.specs.Growth.{empty, kept, added, SameRevision, GrownRevision, GrownDescriptor, stays, other, revised, end, next}
+use Rattle.rules.specs.Growth.{GrownParts, Grown, GrownRun, grown, Told, told, Untouched, OtherProtocol}
 use Rattle.rules.specs.Growth
 use Rattle.rules.specs.declared.Table.{Table}
 use Rattle.rules.specs.declared.Table.the-variants.{Cds, Mms, Vcm, Dcm}
@@ -59,7 +61,18 @@ abbrev includedPlain : List ℕ
 includedPlain = hex "C4 30 27 00 00 00 00 20 00 00 00 00 00 01 00 03 00 12 34 02 00 03 01 01 94 04 FC 03 FC 01 81 01 01 93 03 E5 00 00 E0 06 CD 53"
 
 abbrev includedGrown : List ℕ
-includedGrown = hex "C4 00 32 00 00 00 00 20 00 00 00 00 00 01 00 03 00 12 34 02 00 03 01 03 82 00 94 04 00 03 00 01 93 02 00 00 81 02 FF 01 82 00 93 05 05 00 00 01 02 E9 52 39 33"
+includedGrown =
+    hex "C4 00 32 00 00 00 00 20 00 00 00 00 00 01 00 03 00 12 34 02 00 03 01 03 82 00 94 04 00 03 00 01 93 02 00 00 81 02 FF 01 82 00"
+    ++ hex "93 05 05 00 00 01 02 E9 52 39 33"
+
+-- parts of a section: bytes 0 to 2, the rest of the header, the head, the records, the closing list
+abbrev cut : (number flags low : ℕ) → (header head : String) → List Piece → List Descriptor → Parts
+cut number flags low header head pieces closing =
+    record { number = number; flags = flags; low = low; header = hex header; head = hex head; pieces = pieces; closing = closing }
+
+-- the revision descriptor of version 5, 0 of 0, and one that it may grow into
+revision : (body : String) → SameRevision (hex "E5 00 00") (hex body) → GrownDescriptor (d 0x93 "E5 00 00") (d 0x93 body)
+revision body same = revised (record { was = refl; is = refl; same = same })
 
 pub carriers-grow : Grown carriersPlain carriersGrown
 unfolding computed
@@ -67,26 +80,10 @@ carriers-grow =
     record {
       content = c1Content (d 0x93 "E5 00 00" ∷ []) (record { version = 5; number = 0; last = 0 });
       reads = refl;
-      before =
-          record {
-            number = 0xC2;
-            flags = 0x30;
-            low = 0x13;
-            header = hex "00 01 01 01";
-            head = [];
-            pieces = p "02 80 30 81 C8" [] ∷ [];
-            closing = d 0x93 "E5 00 00" ∷ [];
-          };
+      before = cut 0xC2 0x30 0x13 "00 01 01 01" "" (p "02 80 30 81 C8" [] ∷ []) (d 0x93 "E5 00 00" ∷ []);
       after =
-          record {
-            number = 0xC2;
-            flags = 0x00;
-            low = 0x20;
-            header = hex "00 01 01 01";
-            head = [];
-            pieces = p "02 80 30 81 C8" (d 0x93 "" ∷ d 0x80 "AA" ∷ []) ∷ [];
-            closing = d 0x81 "" ∷ d 0x93 "05 00 00 AA BB" ∷ d 0xC0 "01 02" ∷ [];
-          };
+          cut 0xC2 0x00 0x20 "00 01 01 01" "" (p "02 80 30 81 C8" (d 0x93 "" ∷ d 0x80 "AA" ∷ []) ∷ [])
+          (d 0x81 "" ∷ d 0x93 "05 00 00 AA BB" ∷ d 0xC0 "01 02" ∷ []);
       was = refl;
       is = refl;
       shaped = record { header = refl; head = refl; sized = (refl, λ e. absurd (differ e), tt); count = refl };
@@ -100,7 +97,7 @@ carriers-grow =
             pieces = next refl (added (d 0x93 "") tt (added (d 0x80 "AA") tt empty)) end;
             closing =
                 added (d 0x81 "") (λ e. omega (arith, e))
-                (kept {d = d 0x93 "E5 00 00"} {e = d 0x93 "05 00 00 AA BB"} (revised (record { was = refl; is = refl; same = record { long = omega arith; longer = omega arith; version = refl; number = refl; last = refl } }))
+                (kept (revision "05 00 00 AA BB" (record { long = omega arith; longer = omega arith; version = refl; number = refl; last = refl }))
                 (added (d 0xC0 "01 02") (λ e. omega (arith, e)) empty));
           };
       fits = refl;
@@ -113,26 +110,8 @@ modes-grow =
     record {
       content = said Mms (modes 1 (record { index = 1; what = c12Mode } ∷ [])) (d 0x93 "E5 00 00" ∷ []);
       reads = refl;
-      before =
-          record {
-            number = 0xC2;
-            flags = 0x30;
-            low = 0x14;
-            header = hex "00 01 01 02";
-            head = [];
-            pieces = p "2F 08 00 4D 29 AD" [] ∷ [];
-            closing = d 0x93 "E5 00 00" ∷ [];
-          };
-      after =
-          record {
-            number = 0xC2;
-            flags = 0x10;
-            low = 0x1D;
-            header = hex "00 01 01 02";
-            head = [];
-            pieces = p "2F 08 00 4D 29 AD" (d 0x80 "AA BB CC" ∷ []) ∷ [];
-            closing = d 0x93 "45 00 00 77" ∷ d 0x81 "01" ∷ [];
-          };
+      before = cut 0xC2 0x30 0x14 "00 01 01 02" "" (p "2F 08 00 4D 29 AD" [] ∷ []) (d 0x93 "E5 00 00" ∷ []);
+      after = cut 0xC2 0x10 0x1D "00 01 01 02" "" (p "2F 08 00 4D 29 AD" (d 0x80 "AA BB CC" ∷ []) ∷ []) (d 0x93 "45 00 00 77" ∷ d 0x81 "01" ∷ []);
       was = refl;
       is = refl;
       shaped = record { header = refl; head = refl; sized = (refl, λ e. absurd (differ e), tt); count = refl };
@@ -145,7 +124,7 @@ modes-grow =
             head = refl;
             pieces = next refl (added (d 0x80 "AA BB CC") tt empty) end;
             closing =
-                kept {d = d 0x93 "E5 00 00"} {e = d 0x93 "45 00 00 77"} (revised (record { was = refl; is = refl; same = record { long = omega arith; longer = omega arith; version = refl; number = refl; last = refl } }))
+                kept (revision "45 00 00 77" (record { long = omega arith; longer = omega arith; version = refl; number = refl; last = refl }))
                 (added (d 0x81 "01") (λ e. omega (arith, e)) empty);
           };
       fits = refl;
@@ -158,26 +137,8 @@ ranges-grow =
     record {
       content = said Dcm (ranges 0 2 c7Ranges) (d 0x93 "E5 00 00" ∷ []);
       reads = refl;
-      before =
-          record {
-            number = 0xC4;
-            flags = 0x30;
-            low = 0x13;
-            header = hex "00 01 00 00";
-            head = hex "00 02 03";
-            pieces = p "83" [] ∷ p "05" [] ∷ p "81" [] ∷ [];
-            closing = d 0x93 "E5 00 00" ∷ [];
-          };
-      after =
-          record {
-            number = 0xC4;
-            flags = 0x20;
-            low = 0x17;
-            header = hex "00 01 00 00";
-            head = hex "00 02 03";
-            pieces = p "83" [] ∷ p "05" [] ∷ p "81" [] ∷ [];
-            closing = d 0x80 "AA" ∷ d 0x93 "65 00 00 01" ∷ [];
-          };
+      before = cut 0xC4 0x30 0x13 "00 01 00 00" "00 02 03" (p "83" [] ∷ p "05" [] ∷ p "81" [] ∷ []) (d 0x93 "E5 00 00" ∷ []);
+      after = cut 0xC4 0x20 0x17 "00 01 00 00" "00 02 03" (p "83" [] ∷ p "05" [] ∷ p "81" [] ∷ []) (d 0x80 "AA" ∷ d 0x93 "65 00 00 01" ∷ []);
       was = refl;
       is = refl;
       shaped = record { header = refl; head = refl; sized = (refl, λ e. refl, (refl, λ e. refl, (refl, λ e. refl, tt))); count = refl };
@@ -191,7 +152,7 @@ ranges-grow =
             pieces = next refl empty (next refl empty (next refl empty end));
             closing =
                 added (d 0x80 "AA") (λ e. omega (arith, e))
-                (kept {d = d 0x93 "E5 00 00"} {e = d 0x93 "65 00 00 01"} (revised (record { was = refl; is = refl; same = record { long = omega arith; longer = omega arith; version = refl; number = refl; last = refl } })) empty);
+                (kept (revision "65 00 00 01" (record { long = omega arith; longer = omega arith; version = refl; number = refl; last = refl })) empty);
           };
       fits = refl;
       crc = refl;
@@ -203,26 +164,8 @@ channels-grow =
     record {
       content = said Vcm (c9Channels 0) (d 0x93 "E5 00 00" ∷ []);
       reads = refl;
-      before =
-          record {
-            number = 0xC4;
-            flags = 0x30;
-            low = 0x1D;
-            header = hex "00 00 00 00";
-            head = hex "00 00 00 00 00 00 01";
-            pieces = p "00 03 00 12 34 02 00 03 01" [] ∷ [];
-            closing = d 0x93 "E5 00 00" ∷ [];
-          };
-      after =
-          record {
-            number = 0xC4;
-            flags = 0x00;
-            low = 0x23;
-            header = hex "00 00 00 00";
-            head = hex "00 00 00 00 00 00 01";
-            pieces = p "00 03 00 12 34 02 00 03 01" [] ∷ [];
-            closing = d 0x80 "" ∷ d 0x80 "AA" ∷ d 0x93 "25 00 00 FF" ∷ [];
-          };
+      before = cut 0xC4 0x30 0x1D "00 00 00 00" "00 00 00 00 00 00 01" (channel1 []) (d 0x93 "E5 00 00" ∷ []);
+      after = cut 0xC4 0x00 0x23 "00 00 00 00" "00 00 00 00 00 00 01" (channel1 []) (d 0x80 "" ∷ d 0x80 "AA" ∷ d 0x93 "25 00 00 FF" ∷ []);
       was = refl;
       is = refl;
       shaped = record { header = refl; head = refl; sized = (refl, λ e. refl, tt); count = refl };
@@ -237,7 +180,7 @@ channels-grow =
             closing =
                 added (d 0x80 "") (λ e. omega (arith, e))
                 (added (d 0x80 "AA") (λ e. omega (arith, e))
-                (kept {d = d 0x93 "E5 00 00"} {e = d 0x93 "25 00 00 FF"} (revised (record { was = refl; is = refl; same = record { long = omega arith; longer = omega arith; version = refl; number = refl; last = refl } })) empty));
+                (kept (revision "25 00 00 FF" (record { long = omega arith; longer = omega arith; version = refl; number = refl; last = refl })) empty));
           };
       fits = refl;
       crc = refl;
@@ -249,26 +192,10 @@ included-grow =
     record {
       content = said Vcm (c9Channels 1) (d 0x81 "01" ∷ d 0x93 "E5 00 00" ∷ []);
       reads = refl;
-      before =
-          record {
-            number = 0xC4;
-            flags = 0x30;
-            low = 0x27;
-            header = hex "00 00 00 00";
-            head = hex "20 00 00 00 00 00 01";
-            pieces = p "00 03 00 12 34 02 00 03 01" (d 0x94 "FC 03 FC 01" ∷ []) ∷ [];
-            closing = d 0x81 "01" ∷ d 0x93 "E5 00 00" ∷ [];
-          };
+      before = cut 0xC4 0x30 0x27 "00 00 00 00" "20 00 00 00 00 00 01" (channel1 (d 0x94 "FC 03 FC 01" ∷ [])) (d 0x81 "01" ∷ d 0x93 "E5 00 00" ∷ []);
       after =
-          record {
-            number = 0xC4;
-            flags = 0x00;
-            low = 0x32;
-            header = hex "00 00 00 00";
-            head = hex "20 00 00 00 00 00 01";
-            pieces = p "00 03 00 12 34 02 00 03 01" (d 0x82 "" ∷ d 0x94 "00 03 00 01" ∷ d 0x93 "00 00" ∷ []) ∷ [];
-            closing = d 0x81 "FF 01" ∷ d 0x82 "" ∷ d 0x93 "05 00 00 01 02" ∷ [];
-          };
+          cut 0xC4 0x00 0x32 "00 00 00 00" "20 00 00 00 00 00 01" (channel1 (d 0x82 "" ∷ d 0x94 "00 03 00 01" ∷ d 0x93 "00 00" ∷ []))
+          (d 0x81 "FF 01" ∷ d 0x82 "" ∷ d 0x93 "05 00 00 01 02" ∷ []);
       was = refl;
       is = refl;
       shaped = record { header = refl; head = refl; sized = (refl, λ e. absurd (differ e), tt); count = refl };
@@ -283,7 +210,7 @@ included-grow =
             closing =
                 kept {d = d 0x81 "01"} {e = d 0x81 "FF 01"} (other (λ e. omega (arith, e)) refl)
                 (added (d 0x82 "") (λ e. omega (arith, e))
-                (kept {d = d 0x93 "E5 00 00"} {e = d 0x93 "05 00 00 01 02"} (revised (record { was = refl; is = refl; same = record { long = omega arith; longer = omega arith; version = refl; number = refl; last = refl } })) empty));
+                (kept (revision "05 00 00 01 02" (record { long = omega arith; longer = omega arith; version = refl; number = refl; last = refl })) empty));
           };
       fits = refl;
       crc = refl;

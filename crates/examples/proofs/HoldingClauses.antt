@@ -5,7 +5,9 @@ use mathlib.Core.List.{List, [], _∷_, _++_, map}
 use mathlib.Core.Option.{none, some}
 use lib.ListN.{length, replicate}
 use Rattle.rules.specs.Section.{Content, right, wrong}
-use Rattle.rules.specs.Holding.{placeOf, storeSize, sectionAt, put, listed, holdingOf, with, liveAt, gatheredAt, noneLive, noneGathered, freshHolding, fresh, holds, allOf, liveFormed, gatheredFormed, sameVersion, holdingFormed, stepOf, offeredAs, offered, touches, takesIn, storeAfter, answerTo, boxAfter}
+use Rattle.rules.specs.Holding.{placeOf, storeSize, sectionAt, put, listed, holdingOf, with, liveAt, gatheredAt, noneLive, noneGathered, freshHolding}
+use Rattle.rules.specs.Holding.{fresh, holds, allOf, liveFormed, gatheredFormed, sameVersion, holdingFormed, stepOf, offeredAs, offered, touches}
+use Rattle.rules.specs.Holding.{takesIn, storeAfter, answerTo, boxAfter}
 use Rattle.rules.specs.declared.Table.{Table}
 use Rattle.rules.specs.declared.Table.the-variants.{Cds, Mms, Vcm, Dcm}
 use Rattle.rules.specs.declared.LiveVersion.{LiveVersion}

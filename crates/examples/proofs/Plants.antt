@@ -1,7 +1,7 @@
 -- What the facts share: plants, as the sections that they send, with their CRC; and parts of a section.
 use Prim.Native.Nat.{ℕ}
 use Prim.Native.String.{String}
-use mathlib.Core.List.{List, [], _∷_}
+use mathlib.Core.List.{List, [], _∷_, _++_}
 use Rattle.rules.specs.Descriptors.{Descriptor}
 use Rattle.rules.specs.Parts.{Piece, Parts}
 use Rattle.rules.proofs.Hex.{hex}
@@ -36,7 +36,8 @@ plantMms = hex "C2 30 1B 00 07 02 02 4B 98 01 23 45 67 00 00 00 0F FF FF FF 00 9
 
 abbrev pub plantVcm : List ℕ
 plantVcm =
-    hex "C4 30 34 00 00 01 02 20 80 12 34 56 78 03 01 23 21 03 04 04 01 02 07 00 01 24 A0 05 06 00 00 00 00 01 94 00 01 25 10 07 08 06 84 00 00 00 93 03 E5 00 00 3F CD 78 14"
+    hex "C4 30 34 00 00 01 02 20 80 12 34 56 78 03 01 23 21 03 04 04 01 02 07 00 01 24 A0 05 06 00 00 00 00 01 94 00"
+    ++ hex "01 25 10 07 08 06 84 00 00 00 93 03 E5 00 00 3F CD 78 14"
 
 abbrev pub plantDcm : List ℕ
 plantDcm = hex "C4 30 13 00 01 01 02 01 22 03 01 83 7F 93 03 E5 00 00 BC C8 E8 15"

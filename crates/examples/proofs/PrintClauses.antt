@@ -70,7 +70,10 @@ pub record PrintClauses : Type 0 where
   -- ---- the lines
   pub versions : versionLines someLive ≡ text "cds=1\nmms=0\nvcm=none\ndcm=none\n"
   pub versions-other :
-      versionLines (record { tables = record { cds = someLive .tables .dcm; mms = someLive .tables .vcm; vcm = someLive .tables .mms; dcm = someLive .tables .cds }; settings = someLive .settings })
+      versionLines (record {
+        tables = record { cds = someLive .tables .dcm; mms = someLive .tables .vcm; vcm = someLive .tables .mms; dcm = someLive .tables .cds };
+        settings = someLive .settings;
+      })
       ≡ text "cds=none\nmms=none\nvcm=0\ndcm=1\n"
   pub no-version : map version (live 0 0 0 ∷ live 1 5 0 ∷ live 2 5 0 ∷ []) ≡ text "none" ∷ text "5" ∷ text "none" ∷ []
   pub headed : heading someLive 11 22 33 ≡ text "lineup=1\nmap=258\nsections=11\nrefused=22\n" ++ versionLines someLive ++ text "channels=33\n"

@@ -22,7 +22,11 @@ pub record SaidClauses : Type 0 where
   pub refusals : readSaid (Read.Refused 3) ∷ askedSaid (Asked.Refused 4) ∷ answerSaid (Answer.Refused 5) ∷ tunedSaid (Tuned.Refused 6) ∷ []
       ≡ map (λ n. record { refusal = n; word = "refusal"; values = [] }) (3 ∷ 4 ∷ 5 ∷ 6 ∷ [])
   pub reads :
-      map (λ t. readSaid (Read.Right (record { table = t; map = 258; revision = record { version = 5; number = 1; last = 3 }; closing = 19 }))) (Cds ∷ Mms ∷ Vcm ∷ Dcm ∷ [])
+      map
+      (λ t.
+      readSaid
+      (Read.Right (record { table = t; map = 258; revision = record { version = 5; number = 1; last = 3 }; closing = 19 })))
+      (Cds ∷ Mms ∷ Vcm ∷ Dcm ∷ [])
       ≡ map (λ t. record { refusal = 0; word = "reads right"; values = t ∷ 258 ∷ 5 ∷ 1 ∷ 3 ∷ 19 ∷ [] }) (0 ∷ 1 ∷ 2 ∷ 3 ∷ [])
   pub asked :
       map askedSaid (Asked.Absent ∷ Asked.There 9 2 ∷ [])

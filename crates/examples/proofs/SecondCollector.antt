@@ -1,6 +1,6 @@
 -- A second collector, in small: one table, so many sections as its state says, places of 4,096 bytes, and a reader of its own. It is no part of
 -- the box; it shows that what is promised of gathering is promised of more than the box: its record, its laws, and one line.
-use Prim.Native.Nat.{ℕ, _+_, _<_, _%_}
+use Prim.Native.Nat.{ℕ, _+_, _%_}
 use native.Mathlib.Omega.{arith}
 use mathlib.Core.Path.{_≡_, refl, subst}
 use mathlib.Core.Bool.{Bool, true, false, cond, not, _&&_}
@@ -91,7 +91,7 @@ fits s c e = go (pageFits s) (ltb (byte 6 s) (byte 5 s)) refl refl
         let many = leb-true 7 (length s) (both-left (leb 7 (length s)) _ two) in
         let few = leb-true (lengthOf s) 4093 (both-right (leb 7 (length s) && eqb (length s) (3 + lengthOf s)) _ ex) in
         subst (λ (d : Page). Fits 4096 s (d .revision)) is
-        (record { version = omega arith; number = ltb-false (byte 6 s) (byte 5 s) ey; long = omega (arith, many); short = omega (arith, few, whole); whole = whole })
+        (record { version = omega arith; number = ltb-false _ _ ey; long = omega (arith, many); short = omega (arith, few, whole); whole = whole })
 
 with-aside : (s : OneState) (t : OneTable) (h : Holding) (c : Page) → second .aside (second .with s t h) c ≡ second .aside s c
 unfolding otherPage
@@ -119,7 +119,8 @@ second-lawful =
 pub second-gathers : Gathers second
 second-gathers = gathers second second-lawful
 
-pub second-any-order : (b : BoxOf OneState) (v last n : ℕ) (x : List ℕ) (xs : List (List ℕ)) → Promised second b only v last (x ∷ xs) → Wanted second (b .state) only v last n x
+pub second-any-order : (b : BoxOf OneState) (v last n : ℕ) (x : List ℕ) (xs : List (List ℕ)) → Promised second b only v last (x ∷ xs)
+    → Wanted second (b .state) only v last n x
     → NoneOther second (b .state) only v last xs → run second b (x ∷ xs) .state .held .live ≡ record { present = 1; version = v; last = last }
 second-any-order b = second-gathers .in-any-order b only
 

@@ -7,7 +7,8 @@ use mathlib.Core.Option.{Option, none, some}
 use Rattle.rules.specs.Crc.{bitsOf, crcOf}
 use Rattle.rules.specs.Descriptors.{Descriptor}
 use Rattle.rules.specs.Layout.{Numbered}
-use Rattle.rules.specs.Tables.{carriersZeros, carriersOf, carrierKhz, modeZeros, modeOf, vcmHeadZeros, vcmHeadOf, transportOf, channelZeros, channelOf, dcmHeadZeros, dcmHeadOf, rangeOf}
+use Rattle.rules.specs.Tables.{carriersZeros, carriersOf, carrierKhz, modeZeros, modeOf, vcmHeadZeros, vcmHeadOf, transportOf, channelZeros}
+use Rattle.rules.specs.Tables.{channelOf, dcmHeadZeros, dcmHeadOf, rangeOf}
 use Rattle.rules.specs.Form.{form}
 use Rattle.rules.specs.Meaning.{Meaning, meant}
 use Rattle.rules.specs.Section.{Structure, Reading, wrong, right, content, withoutCrc, read, readAs, askedOf, partOf}

@@ -112,8 +112,11 @@ pub record TuningClauses : Type 0 where
   pub twenty : map (λ khz. asNumber (inReach khz)) (53999 ∷ 54000 ∷ 54001 ∷ 1001999 ∷ 1002000 ∷ 1002001 ∷ []) ≡ 0 ∷ 1 ∷ 1 ∷ 1 ∷ 1 ∷ 0 ∷ []
   -- 21: digital alone, reference 0, also where a record has index 0, and no record
   pub twenty-one : map (λ mode. lookUp (small (eight 3 mode)) 8) (0 ∷ 1 ∷ 2 ∷ []) ≡ Tuned.Refused 21 ∷ Tuned.Digital 0 0 57000 3 c12 ∷ Tuned.Refused 21 ∷ []
-  pub twenty-one-zero : map (λ mode. lookUp (record { carriers = small [] .carriers; modes = modeAt 0; channels = eight 3 mode; ranges = small [] .ranges }) 8) (0 ∷ 1 ∷ []) ≡ Tuned.Refused 21 ∷ Tuned.Refused 21 ∷ []
-  pub twenty-one-lower : lookUp (record { carriers = small [] .carriers; modes = modeAt 2; channels = eight 3 1; ranges = small [] .ranges }) 8 ≡ Tuned.Refused 21
+  pub twenty-one-zero : map
+      (λ mode. lookUp (record { carriers = small [] .carriers; modes = modeAt 0; channels = eight 3 mode; ranges = small [] .ranges }) 8) (0 ∷ 1 ∷ [])
+      ≡ Tuned.Refused 21 ∷ Tuned.Refused 21 ∷ []
+  pub twenty-one-lower : lookUp (record { carriers = small [] .carriers; modes = modeAt 2; channels = eight 3 1; ranges = small [] .ranges }) 8
+      ≡ Tuned.Refused 21
   -- an application channel needs no carrier; path of all three kinds, and hidden, which is type 1 alone
   pub kinds :
       map (λ flags. lookUp (small (channelIs (hex "00 08" ++ (flags ∷ hex "12 34 03 00 00 01")))) 8)

@@ -1,12 +1,10 @@
 -- A printed number is its number, however large: read as decimal digits it is the number that was to be printed.
 use Prim.Native.Nat.{ℕ, zero, suc, _+_, _-_, _*_, _/_, _%_, _^_, _<_}
-use native.Mathlib.Omega.{arith}
-use native.Mathlib.Nat.{pow-suc}
+use native.Mathlib.{Omega.arith, Nat.pow-suc}
 use mathlib.Core.Path.{_≡_, refl, ap, _∙_}
 use mathlib.Core.Bool.{Bool, true, false, cond}
 use mathlib.Core.List.{List, [], _∷_, _++_}
-use lib.Dec.{ltb}
-use lib.Pow.{pow-add}
+use lib.{Dec.ltb, Pow.pow-add}
 use Rattle.rules.specs.Lineup.{digits, decimal}
 
 -- what digits say, those in front said already
@@ -24,7 +22,8 @@ unfolding digits
 digits-say zero n h = omega (arith, pow-suc 10 0)
 digits-say (suc most) n h = go (ltb n 10) refl (digits-say most (n / 10) (omega (arith, pow-suc 10 (suc most))))
   where
-    go : (b : Bool) → ltb n 10 ≡ b → valueFrom 0 (digits most (n / 10)) ≡ n / 10 → valueFrom 0 (cond b ((48 + n) ∷ []) (digits most (n / 10) ++ ((48 + n % 10) ∷ []))) ≡ n
+    go : (b : Bool) → ltb n 10 ≡ b → valueFrom 0 (digits most (n / 10)) ≡ n / 10
+        → valueFrom 0 (cond b ((48 + n) ∷ []) (digits most (n / 10) ++ ((48 + n % 10) ∷ []))) ≡ n
     go true e f = omega arith
     go false e f = value-append 0 (digits most (n / 10)) (48 + n % 10) ∙ omega (arith, f)
 

@@ -3,7 +3,7 @@
 use Prim.Native.Nat.{ℕ}
 use mathlib.Core.Path.{_≡_, refl}
 use mathlib.Core.Bool.{true, false}
-use mathlib.Core.List.{List, [], _∷_, map}
+use mathlib.Core.List.{List, [], _∷_, _++_, map}
 use lib.ListN.{length}
 use Rattle.rules.specs.Descriptors.{Descriptor}
 use Rattle.rules.specs.Layout.{Numbered}
@@ -70,7 +70,9 @@ abbrev pub c1Content : List Descriptor → Revision → Content
 c1Content closing revision =
     record {
       table = Cds;
-      structure = carriers 1 (record { index = 1; what = record { count = 2; spacing = record { unit = 1; number = 48 }; first = record { unit = 1; number = 456 } } } ∷ []);
+      structure =
+          carriers 1 (record { index = 1; what = record { count = 2; spacing = record { unit = 1; number = 48 }; first = record { unit = 1; number = 456 } } }
+          ∷ []);
       closing = closing;
       revision = revision;
     }
@@ -83,7 +85,9 @@ abbrev pub bordersMms : List ℕ
 bordersMms = hex "C2 30 14 00 01 01 02 2F 08 00 4D 29 AD 00 93 03 E5 00 00 CE 5B B1 EE"
 
 abbrev pub bordersVcm : List ℕ
-bordersVcm = hex "C4 30 38 00 00 00 00 00 00 00 00 00 00 04 00 02 00 12 34 02 00 03 01 00 03 00 12 34 03 00 03 01 00 04 00 12 34 04 00 03 01 00 05 00 12 34 05 00 03 01 93 03 E5 00 00 A9 F1 EE 35"
+bordersVcm =
+    hex "C4 30 38 00 00 00 00 00 00 00 00 00 00 04 00 02 00 12 34 02 00 03 01 00 03 00 12 34 03 00 03 01 00 04 00 12 34 04 00 03 01"
+    ++ hex "00 05 00 12 34 05 00 03 01 93 03 E5 00 00 A9 F1 EE 35"
 
 abbrev pub bordersDcm : List ℕ
 bordersDcm = hex "C4 30 11 00 01 00 00 00 02 01 84 93 03 E5 00 00 0C B9 F5 D9"
@@ -106,7 +110,8 @@ c12Mode = record { system = 2; inner = 15; split = 0; format = 8; symbols = 5056
 pub record Examples : Type 0 where
   -- C1 `02 80 30 81 C8`: 57,000 and 63,000 kHz
   pub c1 :
-      (readSection (hex "C2 30 13 00 01 01 01 02 80 30 81 C8 00 93 03 E5 00 00 74 9E FB E2") ≡ right (c1Content (record { tag = 0x93; body = hex "E5 00 00" } ∷ []) (record { version = 5; number = 0; last = 0 })))
+      (readSection (hex "C2 30 13 00 01 01 01 02 80 30 81 C8 00 93 03 E5 00 00 74 9E FB E2")
+      ≡ right (c1Content (record { tag = 0x93; body = hex "E5 00 00" } ∷ []) (record { version = 5; number = 0; last = 0 })))
       × (carrierKhz (carriersOf (hex "02 80 30 81 C8")) 0 ≡ 57000)
       × (carrierKhz (carriersOf (hex "02 80 30 81 C8")) 1 ≡ 63000)
   -- C2 `01 00 00 15 18`: 54,000
@@ -136,7 +141,13 @@ pub record Examples : Type 0 where
       × (check (hex "C2 30 13 00 02 01 01 FF BF FF FF FF 00 93 03 E5 00 00 8F EC ED 89") ≡ 10)
   -- C7 DCM first 2, `83 05 81`: 2 to 4 defined, 5 to 9 not, 10 defined
   pub c7 :
-      (readSection (hex "C4 30 13 00 01 00 00 00 02 03 83 05 81 93 03 E5 00 00 90 74 69 2E") ≡ right (record { table = Dcm; structure = ranges 0 2 c7Ranges; closing = record { tag = 0x93; body = hex "E5 00 00" } ∷ []; revision = record { version = 5; number = 0; last = 0 } }))
+      (readSection (hex "C4 30 13 00 01 00 00 00 02 03 83 05 81 93 03 E5 00 00 90 74 69 2E")
+      ≡ right (record {
+        table = Dcm;
+        structure = ranges 0 2 c7Ranges;
+        closing = record { tag = 0x93; body = hex "E5 00 00" } ∷ [];
+        revision = record { version = 5; number = 0; last = 0 };
+      }))
       × (map (defined c7Ranges) (2 ∷ 3 ∷ 4 ∷ 5 ∷ 6 ∷ 7 ∷ 8 ∷ 9 ∷ 10 ∷ []) ≡ true ∷ true ∷ true ∷ false ∷ false ∷ false ∷ false ∷ false ∷ true ∷ [])
   -- C8 first 4095: `81` good, `82` gives 10
   pub c8 :
@@ -145,21 +156,43 @@ pub record Examples : Type 0 where
   -- C9 `00 03 00 12 34 02 00 03 01`: channel 3, source 0x1234, carrier 2, programme 3, mode 1
   pub c9 :
       readSection (hex "C4 30 1D 00 00 00 00 00 00 00 00 00 00 01 00 03 00 12 34 02 00 03 01 93 03 E5 00 00 43 E6 31 47")
-      ≡ right (record { table = Vcm; structure = channels 0 0 0 0 (record { index = 0; what = record { number = 3; application = 0; path = 0; kind = 0; source = 0x1234; carrier = 2; signal = Digital 3 1 } } ∷ []); closing = record { tag = 0x93; body = hex "E5 00 00" } ∷ []; revision = record { version = 5; number = 0; last = 0 } })
+      ≡ right (record {
+        table = Vcm;
+        structure =
+            channels 0 0 0 0
+            (record { index = 0; what = record { number = 3; application = 0; path = 0; kind = 0; source = 0x1234; carrier = 2; signal = Digital 3 1 } } ∷ []);
+        closing = record { tag = 0x93; body = hex "E5 00 00" } ∷ [];
+        revision = record { version = 5; number = 0; last = 0 };
+      })
   -- C10 `00 08 10 12 35 02 80 00 00`: analogue, scrambled, standard 0
   pub c10 :
       readSection (hex "C4 30 1D 00 00 00 00 00 00 00 00 00 00 01 00 08 10 12 35 02 80 00 00 93 03 E5 00 00 69 81 46 AD")
-      ≡ right (record { table = Vcm; structure = channels 0 0 0 0 (record { index = 0; what = record { number = 8; application = 0; path = 0; kind = 0; source = 0x1235; carrier = 2; signal = Analogue 1 0 } } ∷ []); closing = record { tag = 0x93; body = hex "E5 00 00" } ∷ []; revision = record { version = 5; number = 0; last = 0 } })
+      ≡ right (record {
+        table = Vcm;
+        structure =
+            channels 0 0 0 0
+            (record { index = 0; what = record { number = 8; application = 0; path = 0; kind = 0; source = 0x1235; carrier = 2; signal = Analogue 1 0 } } ∷ []);
+        closing = record { tag = 0x93; body = hex "E5 00 00" } ∷ [];
+        revision = record { version = 5; number = 0; last = 0 };
+      })
   -- C11 `93 03 E5 00 01`, `93 05 E5 00 01 AA BB` and `93 03 05 00 01`: each version 5, 0 of 1. `93 03 E5 02 01`: 11
   pub c11 :
-      (readSection (hex "C2 30 13 00 01 01 01 02 80 30 81 C8 00 93 03 E5 00 01 70 5F E6 55") ≡ right (c1Content (record { tag = 0x93; body = hex "E5 00 01" } ∷ []) (record { version = 5; number = 0; last = 1 })))
-      × (readSection (hex "C2 30 15 00 01 01 01 02 80 30 81 C8 00 93 05 E5 00 01 AA BB 99 3A 5E C8") ≡ right (c1Content (record { tag = 0x93; body = hex "E5 00 01 AA BB" } ∷ []) (record { version = 5; number = 0; last = 1 })))
-      × (readSection (hex "C2 30 13 00 01 01 01 02 80 30 81 C8 00 93 03 05 00 01 D1 37 14 F5") ≡ right (c1Content (record { tag = 0x93; body = hex "05 00 01" } ∷ []) (record { version = 5; number = 0; last = 1 })))
+      (readSection (hex "C2 30 13 00 01 01 01 02 80 30 81 C8 00 93 03 E5 00 01 70 5F E6 55")
+      ≡ right (c1Content (record { tag = 0x93; body = hex "E5 00 01" } ∷ []) (record { version = 5; number = 0; last = 1 })))
+      × (readSection (hex "C2 30 15 00 01 01 01 02 80 30 81 C8 00 93 05 E5 00 01 AA BB 99 3A 5E C8")
+      ≡ right (c1Content (record { tag = 0x93; body = hex "E5 00 01 AA BB" } ∷ []) (record { version = 5; number = 0; last = 1 })))
+      × (readSection (hex "C2 30 13 00 01 01 01 02 80 30 81 C8 00 93 03 05 00 01 D1 37 14 F5")
+      ≡ right (c1Content (record { tag = 0x93; body = hex "05 00 01" } ∷ []) (record { version = 5; number = 0; last = 1 })))
       × (check (hex "C2 30 13 00 01 01 01 02 80 30 81 C8 00 93 03 E5 02 01 D0 AD 78 5A") ≡ 11)
   -- C12 `2F 08 00 4D 29 AD`: system 2, inner 15, format 8, 5,056,941 symbols
   pub c12 :
       readSection (hex "C2 30 14 00 01 01 02 2F 08 00 4D 29 AD 00 93 03 E5 00 00 CE 5B B1 EE")
-      ≡ right (record { table = Mms; structure = modes 1 (record { index = 1; what = c12Mode } ∷ []); closing = record { tag = 0x93; body = hex "E5 00 00" } ∷ []; revision = record { version = 5; number = 0; last = 0 } })
+      ≡ right (record {
+        table = Mms;
+        structure = modes 1 (record { index = 1; what = c12Mode } ∷ []);
+        closing = record { tag = 0x93; body = hex "E5 00 00" } ∷ [];
+        revision = record { version = 5; number = 0; last = 0 };
+      })
   -- C13 offers (v/n/last): 5/0/1 stored, 1 missing; again, repeat; 6/0/0 live; 5/1/1 stored, 1 missing; 6/0/0 repeat;
   -- 5/0/1 live; 5/0/0 refusal 13; 7/0/4 refusal 12
   pub c13 :

@@ -3,25 +3,18 @@
 use Prim.Native.Nat.{ℕ, _+_, _-_, _<_, _≤_}
 use native.Mathlib.Omega.{arith}
 use mathlib.Core.Path.{_≡_, refl, sym, ap, _∙_}
-use mathlib.Core.Logic.{_⊎_, inl, inr}
-use mathlib.Core.Bool.{Bool, true, false}
-use mathlib.Core.List.{List, [], _∷_}
+use mathlib.Core.{Logic._⊎_, Logic.inl, Logic.inr, Bool.Bool, Bool.true, Bool.false, List.List, List.[], List._∷_}
 use lib.Dec.{leb, eqb}
 use borrow.Author.Tests.{ltb-true, eqb-true, eqb-false, eq-eqb}
 use Rattle.rules.specs.Steps.{noneLive, noneGathered, freshHolding, holds, liveFormed, holdingFormed, heldWith, goneLive, gathering, stepOf, takesIn}
 use Rattle.rules.specs.Gathering.{Collector, BoxOf, placeOf, sectionAt, gatheredAt, answerTo, boxAfter, run}
 use Rattle.rules.specs.Offering.{Taking, TakenIn, NotOf, Wanted}
-use Rattle.rules.specs.declared.Holding.{Holding}
-use Rattle.rules.specs.declared.Revision.{Revision}
-use Rattle.rules.proofs.Taken.{both-right}
-use Rattle.rules.proofs.Held.{all-lt, holds-all, held-below}
-use Rattle.rules.proofs.Right.{one-right}
-use Rattle.rules.proofs.Formed.{formed, gathered-clauses}
-use Rattle.rules.proofs.Steps.{gathered-says, gathered-last, held-before, taken-cases}
-use Rattle.rules.proofs.Store.{same-section, section-there}
-use Rattle.rules.proofs.Lawful.{Lawful, same-table}
-use Rattle.rules.proofs.Offers.{not-of, taken-in, untouched, reads-kept, aside-kept, limit-kept, others-kept, step-holds}
+use Rattle.rules.specs.{declared.Holding.Holding, declared.Revision.Revision}
+use Rattle.rules.proofs.{Taken.both-right, Held.all-lt, Held.holds-all, Held.held-below, Right.one-right, Truths.by-test}
+use Rattle.rules.proofs.{Formed.formed, Formed.gathered-clauses, Store.same-section, Store.section-there, Lawful.Lawful, Lawful.same-table}
 use Rattle.rules.proofs.Kept.{place-kept, other-places}
+use Rattle.rules.proofs.Steps.{gathered-says, gathered-last, held-before, taken-cases}
+use Rattle.rules.proofs.Offers.{not-of, taken-in, untouched, reads-kept, aside-kept, limit-kept, others-kept, step-holds}
 
 -- ---- numbers of a well-formed holding are below the limit
 
@@ -67,8 +60,7 @@ module _ {T S C : Type 0} (co : Collector T S C) where
         go : (b : Bool) → eqb n (r .number) ≡ b → Wanted co start t (r .version) (r .last) n (sectionAt co after (placeOf co limit t (1 - h .half) n))
         go true q = rw (eqb-true n (r .number) q, there) wanted
         go false q =
-            let ne = eqb-false n (r .number) q in
-            let old = held-before h r n ne e in
+            let ne = eqb-false n (r .number) q in let old = held-before h r n ne e in
             let named = gathered-says h (r .version) (old .0) in
             let low : n < limit = gathered-low limit h (k .ready .sound .good) n (named .0) (old .1) in
             rw (elsewhere (1 - h .half) n (omega arith) low (λ x. ne (x .1)))
@@ -119,7 +111,8 @@ module _ {T S C : Type 0} (co : Collector T S C) where
     -- ---- a box
 
     -- in the place that it is put into a section is read again
-    pub section-placed : (b : BoxOf S) (x : List ℕ) (c : C) → TakenIn co b x c → sectionAt co (boxAfter co b x .store) (gatheredAt co (b .state) (tableOf c) (revisionOf c .number)) ≡ x
+    pub section-placed : (b : BoxOf S) (x : List ℕ) (c : C) → TakenIn co b x c
+        → sectionAt co (boxAfter co b x .store) (gatheredAt co (b .state) (tableOf c) (revisionOf c .number)) ≡ x
     section-placed b x c k =
         let r = reads-right (b .state) x c (k .passed .reads) in
         ap (λ (l : List ℕ). sectionAt co l (gatheredAt co (b .state) (tableOf c) (revisionOf c .number))) (k .stored)
@@ -159,17 +152,20 @@ module _ {T S C : Type 0} (co : Collector T S C) where
           let other : NotOf co s t x = not-of co s x c t (k .passed .reads) ne in
           rw (limit-kept co law b x, others-kept co law b x t other)
           (faithful-same start (b .store) (after .store) (limitOf s) t (holdingOf s t) (table-formed s t (k .passed .good))
-          (λ half n halves low. same-section co (after .store) (b .store) (placeOf co (limitOf s) t half n) (other-places co law b x t other half n halves low)) (f .tables t))
+          (λ half n halves low. same-section co (after .store) (b .store) (placeOf co (limitOf s) t half n)
+          (other-places co law b x t other half n halves low)) (f .tables t))
 
     pub faithful-kept : (start : S) (b : BoxOf S) (x : List ℕ) → FaithfulBox start b → FaithfulBox start (boxAfter co b x)
-    faithful-kept start b x f = go (takesIn (answerTo co b x)) refl
-      where
-        go : (taken : Bool) → takesIn (answerTo co b x) ≡ taken → FaithfulBox start (boxAfter co b x)
-        go false e = rw (untouched co law b x e) f
-        go true e =
-            let c = taken-in co law b x e .0 in
-            let k = taken-in co law b x e .1 in
-            record { reads = λ y. reads-kept co law b x y ∙ f .reads y; aside = λ d. aside-kept co law b x d ∙ f .aside d; tables = λ t. each-table start b x f c k t (same-table co law (tableOf c) t) }
+    faithful-kept start b x f =
+        by-test (takesIn (answerTo co b x))
+        (λ e. let c = taken-in co law b x e .0 in
+        let k = taken-in co law b x e .1 in
+        record {
+          reads = λ y. reads-kept co law b x y ∙ f .reads y;
+          aside = λ d. aside-kept co law b x d ∙ f .aside d;
+          tables = λ t. each-table start b x f c k t (same-table co law (tableOf c) t);
+        })
+        (λ e. rw (untouched co law b x e) f)
 
     pub faithful-run : (start : S) (sections : List (List ℕ)) (b : BoxOf S) → FaithfulBox start b → FaithfulBox start (run co b sections)
     unfolding run

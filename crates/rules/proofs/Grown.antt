@@ -5,20 +5,14 @@ use native.Mathlib.Omega.{arith}
 use mathlib.Core.Path.{_≡_, refl, sym, ap, _∙_}
 use mathlib.Core.Bool.{Bool, true, false, cond}
 use mathlib.Core.List.{List, [], _∷_}
-use lib.Dec.{eqb}
-use lib.ListN.{List·getD-append}
+use lib.{Dec.eqb, ListN.List·getD-append}
 use borrow.Author.Tests.{le-leb, ne-eqb}
-use Rattle.rules.specs.Bytes.{byte}
-use Rattle.rules.specs.Descriptors.{Descriptor, bodies}
-use Rattle.rules.specs.Form.{Form, form}
+use Rattle.rules.specs.{Bytes.byte, Descriptors.Descriptor, Descriptors.bodies, Form.Form, Form.form, InParts.PartsRight, InParts.contentIn}
+use Rattle.rules.specs.{Growth.GrownParts, Growth.Grown, declared.Table.Table, declared.Revision.Revision}
 use Rattle.rules.specs.Section.{Structure, revisionTag, revision, Content, right, readSection}
 use Rattle.rules.specs.Parts.{Piece, Parts, saidFront, laidOut, bytesOf, Shaped, said}
-use Rattle.rules.specs.InParts.{PartsRight, contentIn}
-use Rattle.rules.specs.Growth.{FullerList, empty, kept, added, GrownRevision, stays, other, revised, GrownClosing, FullerPieces, end, next, GrownParts, Grown}
-use Rattle.rules.specs.declared.Table.{Table}
-use Rattle.rules.specs.declared.Revision.{Revision}
-use Rattle.rules.proofs.Right.{formal, read-from, read-back}
-use Rattle.rules.proofs.Encoded.{pieces-fuller}
+use Rattle.rules.specs.Growth.{FullerList, empty, kept, added, GrownRevision, stays, other, revised, GrownClosing, FullerPieces, end, next}
+use Rattle.rules.proofs.{Right.formal, Right.read-from, Right.read-back, Encoded.pieces-fuller}
 use Rattle.rules.proofs.InParts.{first-bytes, read-in-parts, parts-read, right-as}
 
 -- the same, with another closing list
@@ -48,7 +42,8 @@ unfolding bodies
 bodies-alike empty = none
 bodies-alike (kept {ds} {es} {d} {e} (stays q) g) = rw q (go (eqb (d .tag) revisionTag) (bodies-alike g))
   where
-    go : (t : Bool) → SameBodies (bodies revisionTag ds) (bodies revisionTag es) → SameBodies (cond t (d .body ∷ bodies revisionTag ds) (bodies revisionTag ds)) (cond t (d .body ∷ bodies revisionTag es) (bodies revisionTag es))
+    go : (t : Bool) → SameBodies (bodies revisionTag ds) (bodies revisionTag es)
+        → SameBodies (cond t (d .body ∷ bodies revisionTag ds) (bodies revisionTag ds)) (cond t (d .body ∷ bodies revisionTag es) (bodies revisionTag es))
     go true a = one refl a
     go false a = a
 bodies-alike (kept {d = d} {e = e} (other n t) g) = rw (ne-eqb (d .tag) revisionTag n, ne-eqb (e .tag) revisionTag (λ h. n (sym t ∙ h))) (bodies-alike g)
@@ -57,7 +52,8 @@ bodies-alike (added d n g) = rw (ne-eqb (d .tag) revisionTag n) (bodies-alike g)
 
 -- ---- the parts
 
-parts-grown : (t : Table) (p q : Parts) (r : Revision) → Shaped (form t) q → GrownParts p q → PartsRight t p r → PartsRight t q r × (said (form t) q ≡ said (form t) p)
+parts-grown : (t : Table) (p q : Parts) (r : Revision) → Shaped (form t) q → GrownParts p q → PartsRight t p r
+    → PartsRight t q r × (said (form t) q ≡ said (form t) p)
 unfolding said
 parts-grown t p q r shaped g k =
     let l = laidOut (form t) p in
@@ -79,7 +75,8 @@ parts-grown t p q r shaped g k =
 -- the first byte of the form's part of the header, where it has one, stands in front of the rest
 header-first : (f : Form) (p q : Parts) → 0 < f .header .size → Shaped f p → GrownParts p q → byte 3 (bytesOf f q) ≡ byte 3 (bytesOf f p)
 unfolding bytesOf byte
-header-first f p q n s g = rw (g .header, List·getD-append (p .header) _ 0 0 (omega (arith, n, s .header)), List·getD-append (p .header) _ 0 0 (omega (arith, n, s .header)))
+header-first f p q n s g =
+    rw (g .header, List·getD-append (p .header) _ 0 0 (omega (arith, n, s .header)), List·getD-append (p .header) _ 0 0 (omega (arith, n, s .header)))
 
 -- ---- the whole section
 
@@ -97,7 +94,8 @@ module _ (s g : List ℕ) (w : Grown s g) where
   protocol-same : byte 3 g ≡ byte 3 s
   unfolding bytesOf byte
   protocol-same =
-      sym (first-bytes g 3 (w .fits) (omega arith)) ∙ ap (byte 3) (w .is) ∙ header-first (form table) (w .before) (w .after) (omega (arith, formal table .low, formal table .high)) (w .shaped) (w .grows)
+      sym (first-bytes g 3 (w .fits) (omega arith)) ∙ ap (byte 3) (w .is)
+      ∙ header-first (form table) (w .before) (w .after) (omega (arith, formal table .low, formal table .high)) (w .shaped) (w .grows)
       ∙ ap (byte 3) (sym (w .was)) ∙ first-bytes s 3 (read-in-parts s (w .content) (w .reads) .fits) (omega arith)
 
   pub grown-reads : readSection g ≡ right (withClosing (w .content) (w .after .closing))
@@ -140,7 +138,8 @@ grown-itself s c e =
       is = k .bytes;
       shaped = k .right .shaped;
       reshaped = k .right .shaped;
-      grows = record { number = refl; zeros = refl; header = refl; head = refl; pieces = pieces-itself (k .parts .pieces); closing = closing-itself (k .parts .closing) };
+      grows =
+          record { number = refl; zeros = refl; header = refl; head = refl; pieces = pieces-itself _; closing = closing-itself (k .parts .closing) };
       fits = k .fits;
       crc = k .crc;
     }

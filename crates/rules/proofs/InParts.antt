@@ -1,19 +1,14 @@
 -- Reading a section, both ways: a section that reads right is the bytes of parts that read right, and says what they say; and the bytes of
 -- such parts, with length, CRC and protocol version right, read right as just that.
 use mathlib.Core.Path.{_≡_, sym, ap, _∙_}
-use mathlib.Core.Bool.{true}
-use mathlib.Core.List.{List, []}
+use mathlib.Core.{Bool.true, List.List, List.[]}
 use Prim.Native.Nat.{ℕ, _-_, _%_, _<_}
 use native.Mathlib.Omega.{arith}
-use lib.ListN.{length}
-use lib.Seq.{getD-take}
+use lib.{ListN.length, Seq.getD-take}
 use borrow.Author.Tests.{eqb-true, eq-eqb}
-use Rattle.rules.specs.Bytes.{got, byte}
-use Rattle.rules.specs.Crc.{crcOf}
-use Rattle.rules.specs.Form.{form}
-use Rattle.rules.specs.Section.{isNumber, Content, content, fitting, withoutCrc, right, readSection}
-use Rattle.rules.specs.Parts.{Parts, bytesOf, Shaped}
+use Rattle.rules.specs.{Bytes.got, Bytes.byte, Crc.crcOf, Form.form, Parts.Parts, Parts.bytesOf, Parts.Shaped}
 use Rattle.rules.specs.InParts.{PartsRight, contentIn, InParts}
+use Rattle.rules.specs.Section.{isNumber, Content, content, fitting, withoutCrc, right, readSection}
 use Rattle.rules.proofs.Right.{number-own, fitting-long, whole-got, whole-so}
 use Rattle.rules.proofs.Parted.{parts-right, right-parts, content-apart}
 
@@ -24,10 +19,10 @@ first-bytes s j fits h = getD-take (length s - 4) s j 0 (omega (arith, fitting-l
 
 pub read-in-parts : (s : List ℕ) (c : Content) → readSection s ≡ right c → InParts s c
 read-in-parts s c e =
-    let w = whole-got s c e in
-    let a = content-apart (withoutCrc s) c (w .rest) (w .is) in
+    let w = whole-got s c e in let a = content-apart (withoutCrc s) c (w .rest) (w .is) in
     let r = parts-right c (a .0) (w .rest) (a .1) (ap content (sym (a .2)) ∙ w .is) in
-    record { parts = a .0; right = r .0; says = r .1; bytes = a .2; fits = w .three; crc = eqb-true (crcOf s) 0 (w .five); protocol = eqb-true (byte 3 s % 32) 0 (w .six) }
+    let crc = eqb-true (crcOf s) 0 (w .five) in
+    record { parts = a .0; right = r .0; says = r .1; bytes = a .2; fits = w .three; crc = crc; protocol = eqb-true (byte 3 s % 32) 0 (w .six) }
 
 pub parts-read : (s : List ℕ) (c : Content) → InParts s c → readSection s ≡ right c
 unfolding bytesOf byte

@@ -9,10 +9,8 @@ use lib.Dec.{eqb}
 use borrow.Author.Tests.{eq-eqb, ne-eqb, eqb-true, eqb-false, not-true}
 use Rattle.rules.specs.Section.{Content, mapOf, Reading, wrong, right}
 use Rattle.rules.specs.Holding.{indexOf, isTable, sectionAt, holdingOf, liveAt, hasMap, notOurs, otherMap, OtherMapped, readFor}
-use Rattle.rules.specs.Answered.{EachLive, Reads, EachReads}
+use Rattle.rules.specs.{Answered.EachLive, Answered.Reads, Answered.EachReads, declared.Table.Table, declared.State.State}
 use Rattle.rules.specs.Tuning.{neededTables, tableLive, allLive, liveCount, liveReading, isSection, readsAs, every, placeReads, tableReads, allRead}
-use Rattle.rules.specs.declared.Table.{Table}
-use Rattle.rules.specs.declared.State.{State}
 use Rattle.rules.proofs.Taken.{not-so, differ, both-left, both-right}
 use Rattle.rules.proofs.States.{same-index, each-at, each-so}
 
@@ -20,7 +18,8 @@ use Rattle.rules.proofs.States.{same-index, each-at, each-so}
 
 pub mapped-says : (s : State) (c : Content) → otherMap s c ≡ true → OtherMapped s c
 unfolding otherMap notOurs
-mapped-says s c e = (both-left _ (not (eqb (mapOf c) (s .settings .map))) e, eqb-false (mapOf c) (s .settings .map) (not-true _ (both-right (hasMap (c .table)) _ e)))
+mapped-says s c e =
+    (both-left _ (not (eqb (mapOf c) (s .settings .map))) e, eqb-false (mapOf c) (s .settings .map) (not-true _ (both-right (hasMap (c .table)) _ e)))
 
 pub mapped-so : (s : State) (c : Content) → OtherMapped s c → otherMap s c ≡ true
 unfolding otherMap notOurs
@@ -42,7 +41,8 @@ module _ (s : State) (store : List ℕ) (t : Table) (n : ℕ) where
         eq-eqb (c .revision .last) (holdingOf s t .live .last) (r .last),
       )
 
-  is-section : (c : Content) → readFor s (sectionAt store (liveAt s t n)) ≡ right c → isSection s t n (c .table) (otherMap s c) (c .revision) ≡ true → Reads s store t n
+  is-section : (c : Content) → readFor s (sectionAt store (liveAt s t n)) ≡ right c → isSection s t n (c .table) (otherMap s c) (c .revision) ≡ true
+      → Reads s store t n
   unfolding isSection
   is-section c e q =
       let four = both-left _ (eqb (c .revision .last) (holdingOf s t .live .last)) q in
@@ -55,8 +55,13 @@ module _ (s : State) (store : List ℕ) (t : Table) (n : ℕ) where
         table = same-index (c .table) t (eqb-true (indexOf (c .table)) (indexOf t) one);
         map = λ a. differ (sym (mapped-so s c a) ∙ not-true _ (both-right (isTable (c .table) t) _ two));
         version = eqb-true (c .revision .version) (holdingOf s t .live .version) (both-right (isTable (c .table) t && not (otherMap s c)) _ three);
-        number = eqb-true (c .revision .number) n (both-right (isTable (c .table) t && not (otherMap s c) && eqb (c .revision .version) (holdingOf s t .live .version)) _ four);
-        last = eqb-true (c .revision .last) (holdingOf s t .live .last) (both-right (isTable (c .table) t && not (otherMap s c) && eqb (c .revision .version) (holdingOf s t .live .version) && eqb (c .revision .number) n) _ q);
+        number =
+            eqb-true (c .revision .number) n (both-right (isTable (c .table) t && not (otherMap s c) && eqb (c .revision .version)
+            (holdingOf s t .live .version)) _ four);
+        last =
+            eqb-true (c .revision .last) (holdingOf s t .live .last)
+            (both-right (isTable (c .table) t && not (otherMap s c) && eqb (c .revision .version) (holdingOf s t .live .version) && eqb
+            (c .revision .number) n) _ q);
       }
 
   pub place-says : placeReads s store t n ≡ true → Reads s store t n

@@ -1,23 +1,18 @@
 -- Of a fresh box, with any store, the live places always read: what its state says of the store is so (`Faithful`), and that is what check 16 asks.
 use Prim.Native.Nat.{ℕ, _+_}
 use native.Mathlib.Omega.{arith}
-use mathlib.Core.Path.{_≡_, ap, _∙_}
-use mathlib.Core.Bool.{true}
-use mathlib.Core.List.{List}
+use mathlib.Core.{Path._≡_, Path.ap, Path._∙_, Bool.true, List.List}
 use borrow.Author.Tests.{eqb-true, eq-eqb}
 use Rattle.rules.specs.Gathering as Gathering
 use Rattle.rules.specs.Holding.{indexOf, sectionAt, holdingOf, liveAt, fresh, Box, run, box}
-use Rattle.rules.specs.Offering.{Wanted}
+use Rattle.rules.specs.{Offering.Wanted, declared.Table.Table, declared.State.State, declared.Revision.Revision}
 use Rattle.rules.specs.Tuning.{neededTables, tableLive, allLive, liveCount, liveReading, isSection, readsAs, placeReads, tableReads, allRead}
-use Rattle.rules.specs.declared.Table.{Table}
-use Rattle.rules.specs.declared.State.{State}
-use Rattle.rules.specs.declared.Revision.{Revision}
 use Rattle.rules.proofs.States.{each-at, each-so, lawful, all-fresh}
-use Rattle.rules.proofs.Faithful.{FaithfulBox, faithful-run, faithful-fresh}
-use Rattle.rules.proofs.LivePlaces.{every-so}
+use Rattle.rules.proofs.{Faithful.FaithfulBox, Faithful.faithful-run, Faithful.faithful-fresh, LivePlaces.every-so}
 
 module _ (start : State) (b : Box) (f : FaithfulBox box start b) (t : Table) where
-  place-reads : (n : ℕ) → Wanted box start t (holdingOf (b .state) t .live .version) (holdingOf (b .state) t .live .last) n (sectionAt (b .store) (liveAt (b .state) t n))
+  place-reads : (n : ℕ)
+      → Wanted box start t (holdingOf (b .state) t .live .version) (holdingOf (b .state) t .live .last) n (sectionAt (b .store) (liveAt (b .state) t n))
       → placeReads (b .state) (b .store) t n ≡ true
   unfolding placeReads liveReading readsAs isSection
   place-reads n w =
@@ -40,9 +35,11 @@ module _ (start : State) (b : Box) (f : FaithfulBox box start b) (t : Table) whe
 -- all that tuning needs
 pub all-read : (start : State) (b : Box) → FaithfulBox box start b → allLive (b .state) ≡ true → allRead (b .state) (b .store) ≡ true
 unfolding allLive allRead
-all-read start b f e = each-so neededTables (tableReads (b .state) (b .store)) (λ t h. table-reads start b f t (each-at neededTables (tableLive (b .state)) e t h))
+all-read start b f e =
+    each-so neededTables (tableReads (b .state) (b .store)) (λ t h. table-reads start b f t (each-at neededTables (tableLive (b .state)) e t h))
 
-fresh-faithful : (map : ℕ) (store : List ℕ) (sections : List (List ℕ)) → FaithfulBox box (fresh map) (run (record { state = fresh map; store = store }) sections)
+fresh-faithful : (map : ℕ) (store : List ℕ) (sections : List (List ℕ))
+    → FaithfulBox box (fresh map) (run (record { state = fresh map; store = store }) sections)
 fresh-faithful map store sections =
     faithful-run box lawful (fresh map) sections (record { state = fresh map; store = store })
     (faithful-fresh box (fresh map) store (all-fresh map))

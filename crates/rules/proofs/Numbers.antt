@@ -2,38 +2,26 @@
 use Prim.Native.Nat.{ℕ, zero, suc, _+_, _-_, _≤_}
 use native.Mathlib.Omega.{arith}
 use mathlib.Core.Path.{_≡_, refl, ap, subst, _∙_}
-use mathlib.Core.Logic.{_⊎_, inl, inr}
+use mathlib.Core.{Logic._⊎_, Logic.inl, Logic.inr, List.List, List.[], List._∷_, Option.Option, Option.none, Option.some}
 use mathlib.Core.Bool.{Bool, true, false, cond, not}
-use mathlib.Core.List.{List, [], _∷_}
-use mathlib.Core.Option.{Option, none, some}
-use lib.ListN.{length}
-use lib.Count.{ones}
-use lib.Dec.{leb, ltb, eqb}
+use lib.{ListN.length, Count.ones, Dec.leb, Dec.ltb, Dec.eqb}
 use Rattle.rules.specs.Bytes.{Got, refused, got, unless, andThen, giving}
 use Rattle.rules.specs.Descriptors.{Descriptor, descriptor, passed, counted, filling, closing}
 use Rattle.rules.specs.Layout.{Block, taken, Layout, entry, after, records}
-use Rattle.rules.specs.Form.{Front, Form, form}
-use Rattle.rules.specs.Section.{given, headerOf, headerBy, header, inFront, structure, revision, Content, contentOf, content, whole, Reading, wrong, right, read, readSection, checkOf, check, askedOf, ask}
+use Rattle.rules.specs.{Form.Front, Form.Form, Form.form, Gathering.Outcome, Said.OfSection, Said.OfOffer, Said.OfTuning}
+use Rattle.rules.specs.{declared.Channel.Channel, declared.Signal.Signal, declared.Holding.Holding, declared.Revision.Revision}
+use Rattle.rules.specs.{declared.State.State, declared.Stepped.Stepped, declared.Answer.Answer, declared.Asked.Asked, declared.Tuned.Tuned}
+use Rattle.rules.specs.Section.{given, headerOf, headerBy, header, inFront, structure, revision, Content, contentOf, content, whole, Reading}
+use Rattle.rules.specs.Section.{wrong, right, read, readSection, checkOf, check, askedOf, ask}
 use Rattle.rules.specs.Gathering as Gathering
-use Rattle.rules.specs.Gathering.{Outcome}
-use Rattle.rules.specs.Holding.{limitOf, storeSize, holdingOf, wellFormed, allOf, otherLast, isRepeat, goneLive, gathering, liveOrStored, heldWith, stepOf, otherMap, readFor, stepped, offeredAs, offered, Box, answerTo, box}
+use Rattle.rules.specs.Holding.{limitOf, storeSize, holdingOf, wellFormed, allOf, otherLast, isRepeat, goneLive, gathering, liveOrStored}
+use Rattle.rules.specs.Holding.{heldWith, stepOf, otherMap, readFor, stepped, offeredAs, offered, Box, answerTo, box}
 use Rattle.rules.specs.Tuning.{Plant, plant, found, hidden, tuneSignal, tuneKhz, tuneCarrier, tuneChannel, lookUp, tune}
-use Rattle.rules.specs.Said.{OfSection, OfOffer, OfTuning}
-use Rattle.rules.specs.declared.Channel.{Channel}
-use Rattle.rules.specs.declared.Signal.{Signal}
 use Rattle.rules.specs.declared.Signal.the-variants as Signal
-use Rattle.rules.specs.declared.Holding.{Holding}
-use Rattle.rules.specs.declared.Revision.{Revision}
-use Rattle.rules.specs.declared.State.{State}
-use Rattle.rules.specs.declared.Stepped.{Stepped}
-use Rattle.rules.specs.declared.Answer.{Answer}
 use Rattle.rules.specs.declared.Answer.the-variants.{Refused, OtherMap, Repeat, Stored, Live}
-use Rattle.rules.specs.declared.Asked.{Asked}
 use Rattle.rules.specs.declared.Asked.the-variants as Asked
-use Rattle.rules.specs.declared.Tuned.{Tuned}
 use Rattle.rules.specs.declared.Tuned.the-variants as Tuned
-use Rattle.rules.proofs.Asking.{first-answers}
-use Rattle.rules.proofs.Reach.{needs-so}
+use Rattle.rules.proofs.{Asking.first-answers, Reach.needs-so}
 
 -- ---- a section: 3 to 11
 
@@ -109,12 +97,15 @@ taken-by b limits bs = unless-by _ 8 _ eight (unless-by _ 9 _ nine (unless-by _ 
 module _ {R : Type 0} (l : Layout R) where
   entry-by : (index : ℕ) (bs : List ℕ) → ByNumber (entry l index bs)
   unfolding entry
-  entry-by index bs = then-by (taken (l .block) (l .fair index) bs) _ (taken-by (l .block) (l .fair index) bs) (λ r rest. giving-by _ (counted (l .described) rest) (counted-by (l .described) rest))
+  entry-by index bs =
+      then-by (taken (l .block) (l .fair index) bs) _ (taken-by (l .block) (l .fair index) bs)
+      (λ r rest. giving-by _ (counted (l .described) rest) (counted-by (l .described) rest))
 
   records-by : (n index : ℕ) (bs : List ℕ) → ByNumber (records l n index bs)
   unfolding records
   records-by zero index bs = tt
-  records-by (suc n) index bs = then-by (entry l index bs) _ (entry-by index bs) (λ r rest. giving-by _ (records l n (after l r) rest) (records-by n (after l r) rest))
+  records-by (suc n) index bs =
+      then-by (entry l index bs) _ (entry-by index bs) (λ r rest. giving-by _ (records l n (after l r) rest) (records-by n (after l r) rest))
 
 header-by : (bs : List ℕ) → ByNumber (header bs)
 unfolding header headerBy
@@ -185,8 +176,11 @@ step-number : (limit : ℕ) (h : Holding) (r : Revision) → Answers (stepOf lim
 unfolding stepOf liveOrStored
 step-number limit h r = go (leb limit (r .last)) (otherLast h r) (isRepeat h r) (eqb (heldWith h r) (allOf (r .last)))
   where
-    go : (a b c d : Bool) → Answers (cond {A = Stepped} a (record { answer = Refused 12; holding = h }) (cond b (record { answer = Refused 13; holding = h }) (cond c (record { answer = Repeat; holding = h })
-        (cond d (record { answer = Live (r .version); holding = goneLive h r }) (record { answer = Stored (r .last + 1 - ones (heldWith h r)); holding = gathering h r (heldWith h r) })))) .answer)
+    go : (a b c d : Bool)
+        → Answers (cond {A = Stepped} a (record { answer = Refused 12; holding = h })
+        (cond b (record { answer = Refused 13; holding = h }) (cond c (record { answer = Repeat; holding = h })
+        (cond d (record { answer = Live (r .version); holding = goneLive h r })
+        (record { answer = Stored (r .last + 1 - ones (heldWith h r)); holding = gathering h r (heldWith h r) })))) .answer)
     go true b c d = (omega arith, omega arith)
     go false true c d = (omega arith, omega arith)
     go false false true d = tt
@@ -198,7 +192,9 @@ unfolding Gathering.offeredAs Gathering.stepped readFor
 offered-as-number s section (wrong n) e = let low = read-number section n e in (omega (arith, low .0), omega (arith, low .1))
 offered-as-number s section (right c) e = go (otherMap s c)
   where
-    go : (b : Bool) → Answers (cond {A = Outcome State} b (record { answer = OtherMap; state = s }) (Gathering.stepped box s (c .table) (stepOf (limitOf s) (holdingOf s (c .table)) (c .revision))) .answer)
+    go : (b : Bool)
+        → Answers (cond {A = Outcome State} b (record { answer = OtherMap; state = s })
+        (Gathering.stepped box s (c .table) (stepOf (limitOf s) (holdingOf s (c .table)) (c .revision))) .answer)
     go true = tt
     go false = step-number (limitOf s) (holdingOf s (c .table)) (c .revision)
 
@@ -206,7 +202,9 @@ offered-number : (s : State) (store section : List ℕ) → Answers (offered s s
 unfolding Gathering.offered
 offered-number s store section = go (ltb (length store) (storeSize (limitOf s))) (wellFormed s)
   where
-    go : (a b : Bool) → Answers (cond {A = Outcome State} a (record { answer = Refused 1; state = s }) (cond (not b) (record { answer = Refused 2; state = s }) (Gathering.offeredAs box s (readFor s section))) .answer)
+    go : (a b : Bool)
+        → Answers (cond {A = Outcome State} a (record { answer = Refused 1; state = s })
+        (cond (not b) (record { answer = Refused 2; state = s }) (Gathering.offeredAs box s (readFor s section))) .answer)
     go true b = (omega arith, omega arith)
     go false false = (omega arith, omega arith)
     go false true = offered-as-number s section (readFor s section) refl

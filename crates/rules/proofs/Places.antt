@@ -1,21 +1,18 @@
 -- Places: the bytes from a place on, the descriptor that stands at a place, and that whatever is read leaves an end of the
 -- bytes that it was given.
 use Prim.Native.Nat.{ℕ, zero, suc, _+_, _-_, _≤_, _<_}
-use native.Mathlib.Omega.{arith}
-use native.Mathlib.Nat.{add-zero, add-assoc}
+use native.Mathlib.{Omega.arith, Nat.add-zero, Nat.add-assoc}
 use mathlib.Core.Path.{_≡_, refl, sym, ap, subst, _∙_}
-use mathlib.Core.Bool.{Bool, true, false}
-use mathlib.Core.List.{List, [], _∷_}
+use mathlib.Core.{Bool.Bool, Bool.true, Bool.false, List.List, List.[], List._∷_}
 use lib.ListN.{length, take, length-drop, drop-of-length-le}
 use lib.Seq.{getD-drop, getD-take, drop-drop, drop-length}
 use lib.Dec.{leb}
 use borrow.Author.Tests.{leb-true, leb-false}
 use Rattle.rules.specs.Bytes.{Got, refused, got, unless, andThen, giving, byte, from}
 use Rattle.rules.specs.Descriptors.{Descriptor, descriptor, passed, counted}
-use Rattle.rules.specs.Layout.{Numbered, Block, extent, taken, Layout, entry, after, records}
-use Rattle.rules.specs.Form.{Front, Form}
-use Rattle.rules.specs.Section.{Structure, inFront, structure}
-use Rattle.rules.proofs.Taken.{unless-got}
+use Rattle.rules.specs.Layout.{Block, extent, taken, Layout, Numbered, entry, after, records}
+use Rattle.rules.specs.{Form.Front, Form.Form, Section.Structure, Section.inFront, Section.structure}
+use Rattle.rules.proofs.{Taken.unless-got, Truths.by-test}
 
 pub from-from : (b : List ℕ) (n m : ℕ) → from (from b n) m ≡ from b (n + m)
 unfolding from
@@ -45,11 +42,11 @@ descAt b at = record { tag = byte at b; body = take (byte (at + 1) b) (from b (a
 abbrev pub behind : List ℕ → ℕ → ℕ
 behind b at = at + 2 + byte (at + 1) b
 
-pub descriptor-at : (b : List ℕ) (at : ℕ) (d : Descriptor) (rest : List ℕ) → descriptor (from b at) ≡ got d rest → (d ≡ descAt b at) × (rest ≡ from b (behind b at)) × (behind b at ≤ length b)
+pub descriptor-at : (b : List ℕ) (at : ℕ) (d : Descriptor) (rest : List ℕ) → descriptor (from b at) ≡ got d rest
+    → (d ≡ descAt b at) × (rest ≡ from b (behind b at)) × (behind b at ≤ length b)
 unfolding descriptor
 descriptor-at b at d rest e =
-    let two = unless-got _ _ _ _ _ e in
-    let fits = unless-got _ _ _ _ _ (two .1) in
+    let two = unless-got _ _ _ _ _ e in let fits = unless-got _ _ _ _ _ (two .1) in
     let one : byte 1 (from b at) ≡ byte (at + 1) b = byte-from b at 1 in
     let is : d ≡ record { tag = byte 0 (from b at); body = take (byte 1 (from b at)) (from (from b at) 2) } = cc in
     let left : rest ≡ from (from b at) (2 + byte 1 (from b at)) = cc in (
@@ -69,16 +66,13 @@ suffix-trans a b c p q = (q .0 + p .0, p .1 ∙ ap (λ (x : List ℕ). from x (p
 -- the place of an end, by its length
 suffix-place : (rest bs : List ℕ) → Suffix rest bs → from bs (length bs - length rest) ≡ rest
 unfolding from
-suffix-place rest bs (n, e) = go (leb n (length bs)) refl
-  where
-    go : (x : Bool) → leb n (length bs) ≡ x → from bs (length bs - length rest) ≡ rest
-    go true q =
-        let k : length bs - length rest ≡ n = omega (arith, leb-true n (length bs) q, ap length e, length-drop n bs) in
-        rw k (sym e)
-    go false q =
-        let z : rest ≡ [] = e ∙ drop-of-length-le bs {i = n} (omega (arith, leb-false n (length bs) q)) in
-        let k : length bs - length rest ≡ length bs = omega (arith, ap length z) in
-        rw k (drop-length bs ∙ sym z)
+suffix-place rest bs (n, e) =
+    by-test (leb n (length bs))
+    (λ q. let k : length bs - length rest ≡ n = omega (arith, leb-true n (length bs) q, ap length e, length-drop n bs) in
+    rw k (sym e))
+    (λ q. let z : rest ≡ [] = e ∙ drop-of-length-le bs {i = n} (omega (arith, leb-false n (length bs) q)) in
+    let k : length bs - length rest ≡ length bs = omega (arith, ap length z) in
+    rw k (drop-length bs ∙ sym z))
 
 abbrev Ends : {A : Type 0} → Got A → List ℕ → Type 0
 Ends (refused n) bs = Unit
@@ -152,5 +146,7 @@ ends-structure f x bs =
     (λ y rest. ends-giving rest _ (records (f .layout y) (y .count) (y .first) rest) (ends-records (f .layout y) (y .count) (y .first) rest))
 
 -- what a structure leaves, behind a header, stands at the place that its length says
-pub structure-place : (f : Form) (x : Front) (bs : List ℕ) (at : ℕ) (y : Structure) (tail : List ℕ) → structure f x (from bs at) ≡ got y tail → from bs (length bs - length tail) ≡ tail
-structure-place f x bs at y tail e = suffix-place tail bs (suffix-trans tail (from bs at) bs (subst (λ (g : Got Structure). Ends g (from bs at)) e (ends-structure f x (from bs at))) (at, refl))
+pub structure-place : (f : Form) (x : Front) (bs : List ℕ) (at : ℕ) (y : Structure) (tail : List ℕ) → structure f x (from bs at) ≡ got y tail
+    → from bs (length bs - length tail) ≡ tail
+structure-place f x bs at y tail e =
+    suffix-place tail bs (suffix-trans tail (from bs at) bs (subst (λ (g : Got Structure). Ends g (from bs at)) e (ends-structure f x (from bs at))) (at, refl))

@@ -10,7 +10,8 @@ use lib.ListN.{length, replicate}
 use Rattle.rules.specs.Layout.{Numbered}
 use Rattle.rules.specs.Tables.{carriersOf, modeOf, channelOf, rangeOf}
 use Rattle.rules.specs.Section.{check, ask, partOf}
-use Rattle.rules.specs.Holding.{noneLive, noneGathered, freshHolding, fresh, with, liveFormed, gatheredFormed, placeOf, storeSize, stepOf, offered, gatheredAt}
+use Rattle.rules.specs.Holding.{noneLive, noneGathered, freshHolding, fresh, with, liveFormed, gatheredFormed, placeOf, storeSize, stepOf}
+use Rattle.rules.specs.Holding.{offered, gatheredAt}
 use Rattle.rules.specs.Search.{sections}
 use Rattle.rules.specs.Tuning.{Plant, lookUp, tune}
 use Rattle.rules.specs.Lineup.{text, sectionsOf, refusals, channelLine, lineup}
@@ -151,7 +152,8 @@ pub record Readings : Type 0 where
   -- T10: programme 0 tunes
   pub t10 : lookUp (plantOf c1 (channel "00 03 00 12 34 02 00 00 01") (range 3 "81")) 3 ≡ Tuned.Digital 0 0 63000 0 c12
   -- T11: without the modes no channel is looked up, of whatever kind
-  pub t11 : tune (record { tables = record { cds = live5; mms = freshHolding; vcm = live5; dcm = live5 }; settings = record { map = 0 } }) (replicate 32768 0) 8 ≡ Tuned.Refused 15
+  pub t11 : tune (record { tables = record { cds = live5; mms = freshHolding; vcm = live5; dcm = live5 }; settings = record { map = 0 } })
+      (replicate 32768 0) 8 ≡ Tuned.Refused 15
   -- T16: a frequency out of range comes before a mode that is missing
   pub t16 : lookUp (plantOf (carrier 2 "01 00 00 15 17") (channel "00 03 00 12 34 02 00 03 00") (range 3 "81")) 3 ≡ Tuned.Refused 20
   -- T17: a fresh box answers 14 before 15

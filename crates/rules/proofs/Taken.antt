@@ -2,17 +2,13 @@
 use Prim.Native.Nat.{ℕ, zero, suc, _+_, _≤_}
 use native.Mathlib.Omega.{arith}
 use mathlib.Core.Path.{_≡_, refl, sym, ap, ap₂, _∙_}
-use mathlib.Core.Bool.{Bool, true, false}
-use mathlib.Core.List.{List, _∷_, _++_}
-use mathlib.Core.Option.{Option, none, some}
+use mathlib.Core.{Bool.Bool, Bool.true, Bool.false, List.List, List._∷_, List._++_, Option.Option, Option.none, Option.some}
 use lib.ListN.{length, take, length-append}
 use lib.Seq.{length-take-le, take-append-le, take-take, take-at, drop-at}
 use borrow.Author.Tests.{le-leb, leb-true}
 use Rattle.rules.specs.Bytes.{Got, refused, got, unless, andThen, giving, from}
-use Rattle.rules.specs.Descriptors.{counted}
+use Rattle.rules.specs.{Descriptors.counted, Section.given, Parts.Own}
 use Rattle.rules.specs.Layout.{Block, extent, taken, Layout, Numbered, numbered, entry, after, records}
-use Rattle.rules.specs.Section.{given}
-use Rattle.rules.specs.Parts.{Own}
 pub use Rattle.rules.proofs.Truths.{differ, not-so, both-left, both-right, neither-left, neither-right}
 
 pub unless-got : {A : Type 0} (t : Bool) (n : ℕ) (g : Got A) (a : A) (rest : List ℕ) → unless t n g ≡ got a rest → (t ≡ true) × (g ≡ got a rest)
@@ -36,7 +32,8 @@ unfolding giving
 giving-got f (refused n) b rest e = let z : _≡_ {A = ℕ} 0 1 = cc in absurd (omega arith)
 giving-got f (got a l) b rest e = let r : l ≡ rest = cc in let k : b ≡ f a = cc in (a, rw r, k)
 
-pub given-got : {A B : Type 0} (o : Option A) (n : ℕ) (f : A → Got B) (b : B) (rest : List ℕ) → given o n f ≡ got b rest → (a : A) × (f a ≡ got b rest) × (o ≡ some a)
+pub given-got : {A B : Type 0} (o : Option A) (n : ℕ) (f : A → Got B) (b : B) (rest : List ℕ) → given o n f ≡ got b rest
+    → (a : A) × (f a ≡ got b rest) × (o ≡ some a)
 unfolding given
 given-got none n f b rest e = let z : _≡_ {A = ℕ} 0 1 = cc in absurd (omega arith)
 given-got (some a) n f b rest e = (a, e, refl)
@@ -72,10 +69,8 @@ module _ {R : Type 0} (b : Block R) (limits : R → Bool) where
   pub taken-got : (bs : List ℕ) (r : R) (rest : List ℕ) → taken b limits bs ≡ got r rest → Taken b limits bs r rest
   unfolding taken
   taken-got bs r rest q =
-      let x = unless-got _ _ _ _ _ q in
-      let y = unless-got _ _ _ _ _ (x .1) in
-      let z = unless-got _ _ _ _ _ (y .1) in
-      let d = z .1 in
+      let x = unless-got _ _ _ _ _ q in let y = unless-got _ _ _ _ _ (x .1) in
+      let z = unless-got _ _ _ _ _ (y .1) in let d = z .1 in
       record { fits = leb-true _ _ (x .0); zeros = y .0; fair = z .0; is = cc; behind = cc }
 
   pub taken-so : (bs : List ℕ) → extent b bs ≤ length bs → b .zeros (take (extent b bs) bs) ≡ true → limits (b .look (take (extent b bs) bs)) ≡ true
@@ -88,8 +83,7 @@ module _ {R : Type 0} (b : Block R) (limits : R → Bool) where
     pub own-got : (x : List ℕ) (r : R) (rest : List ℕ) → taken b limits (own ++ x) ≡ got r rest
         → (b .zeros own ≡ true) × (limits (b .look own) ≡ true) × (r ≡ b .look own) × (rest ≡ x)
     own-got x r rest e =
-        let t = taken-got (own ++ x) r rest e in
-        let o = own-taken b own x n in
+        let t = taken-got (own ++ x) r rest e in let o = own-taken b own x n in
         (ap (b .zeros) (sym o) ∙ t .zeros, ap (λ (y : List ℕ). limits (b .look y)) (sym o) ∙ t .fair, t .is ∙ ap (b .look) o, t .behind ∙ own-left b own x n)
 
     pub own-so : (x : List ℕ) → b .zeros own ≡ true → limits (b .look own) ≡ true → taken b limits (own ++ x) ≡ got (b .look own) x
@@ -113,12 +107,8 @@ module _ {R : Type 0} (l : Layout R) where
       let t = then-got _ _ _ _ q in
       let b = taken-got (l .block) (l .fair index) bs (t .value) (t .behind) (t .one) in
       let g = giving-got _ _ _ _ (t .more) in
-      record { fits = b .fits; zeros = b .zeros; fair = b .fair; is = g .2 ∙ ap (λ (r : R). record { index = index; what = r }) (b .is); behind = ap (counted (l .described)) (sym (b .behind)) ∙ g .1 }
-
-  pub entry-so : (index : ℕ) (bs rest : List ℕ) → extent (l .block) bs ≤ length bs → l .block .zeros (take (extent (l .block) bs) bs) ≡ true → l .fair index (l .block .look (take (extent (l .block) bs) bs)) ≡ true
-      → counted (l .described) (from bs (extent (l .block) bs)) ≡ got tt rest → entry l index bs ≡ got (numbered l index bs) rest
-  unfolding entry numbered andThen giving
-  entry-so index bs rest h z f c = rw (taken-so (l .block) (l .fair index) bs h z f, c)
+      let is = g .2 ∙ ap (λ (r : R). record { index = index; what = r }) (b .is) in
+      record { fits = b .fits; zeros = b .zeros; fair = b .fair; is = is; behind = ap (counted (l .described)) (sym (b .behind)) ∙ g .1 }
 
   -- as many records as were asked for
   pub records-count : (n index : ℕ) (bs : List ℕ) → giving length (records l n index bs) ≡ giving (λ rs. n) (records l n index bs)
@@ -126,11 +116,13 @@ module _ {R : Type 0} (l : Layout R) where
   records-count zero index bs = refl
   records-count (suc n) index bs = go (entry l index bs) (records-count n)
     where
-      one-more : (r : Numbered R) (g : Got (List (Numbered R))) → giving length g ≡ giving (λ rs. n) g → giving length (giving (λ rs. r ∷ rs) g) ≡ giving (λ rs. suc n) (giving (λ rs. r ∷ rs) g)
+      one-more : (r : Numbered R) (g : Got (List (Numbered R))) → giving length g ≡ giving (λ rs. n) g
+          → giving length (giving (λ rs. r ∷ rs) g) ≡ giving (λ rs. suc n) (giving (λ rs. r ∷ rs) g)
       one-more r (refused k) e = refl
       one-more r (got rs rest) e = let c : length rs ≡ n = cc in rw c
 
       go : (g : Got (Numbered R)) → ((i : ℕ) (l′ : List ℕ) → giving length (records l n i l′) ≡ giving (λ rs. n) (records l n i l′))
-          → giving length (andThen g (λ r rest. giving (λ rs. r ∷ rs) (records l n (after l r) rest))) ≡ giving (λ rs. suc n) (andThen g (λ r rest. giving (λ rs. r ∷ rs) (records l n (after l r) rest)))
+          → giving length (andThen g (λ r rest. giving (λ rs. r ∷ rs) (records l n (after l r) rest)))
+          ≡ giving (λ rs. suc n) (andThen g (λ r rest. giving (λ rs. r ∷ rs) (records l n (after l r) rest)))
       go (refused k) f = refl
       go (got r rest) f = one-more r (records l n (after l r) rest) (f (after l r) rest)

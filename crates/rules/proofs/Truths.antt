@@ -9,6 +9,11 @@ use borrow.Author.Tests.{eq-eqb, le-leb}
 pub differ : true ≡ false → ⊥
 differ e = let z : _≡_ {A = ℕ} 0 1 = cc in omega arith
 
+-- a test decides
+pub by-test : {P : Type 0} (b : Bool) → (b ≡ true → P) → (b ≡ false → P) → P
+by-test true so otherwise = so refl
+by-test false so otherwise = otherwise refl
+
 pub not-so : (b : Bool) → (b ≡ true → ⊥) → b ≡ false
 not-so true ne = absurd (ne refl)
 not-so false ne = refl

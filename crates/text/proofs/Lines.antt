@@ -1,14 +1,12 @@
 -- The two kinds of a table's line, and the line of a channel as the one that its list holds.
-use Prim.Native.Nat.{ℕ, _+_, _≤_}
-use native.Mathlib.Nat.{add-zero}
-use native.Mathlib.Omega.{arith}
+use Prim.Native.Nat.{ℕ, _≤_}
+use native.Mathlib.{Nat.add-zero, Omega.arith}
 use mathlib.Core.Path.{_≡_, sym, ap, _∙_}
 use mathlib.Core.List.{List, [], _∷_, _++_, flatten, append-nil, append-assoc}
 use lib.ListN.{length, take, drop, take-append-drop}
 use borrow.Author.Tests.{eq-eqb, ne-eqb}
-use Rattle.rules.specs.Holding.{put}
-use Rattle.rules.specs.Lineup.{text, decimal, version}
-use Rattle.rules.specs.declared.LiveVersion.{LiveVersion}
+use Rattle.rules.specs.{Holding.put, declared.LiveVersion.LiveVersion, declared.Tuned.Tuned}
+use Rattle.rules.specs.Lineup.{text, decimal, version, channelLine}
 use Rattle.text.specs.Written.{Wrote, lineOf}
 
 module _ {out : List ℕ} {at : ℕ} {out' : List ℕ} {r : ℕ} (key : List ℕ) (l : LiveVersion) where
@@ -23,9 +21,12 @@ module _ {out : List ℕ} {at : ℕ} {out' : List ℕ} {r : ℕ} (key : List ℕ
 -- no text, and the buffer as it was
 pub nothing : (out : List ℕ) (at : ℕ) → at ≤ length out → Wrote out at [] out at
 unfolding put
-nothing out at h = record { room = omega arith; behind = omega arith; holds = rw add-zero (sym (ap (λ (l : List ℕ). l ++ drop at out) (append-nil (take at out)) ∙ take-append-drop at out)) }
+nothing out at h =
+    let same = ap (λ (l : List ℕ). l ++ drop at out) (append-nil (take at out)) ∙ take-append-drop at out in
+    record { room = omega arith; behind = omega arith; holds = rw add-zero (sym same) }
 
--- the only line of its list
-pub line-of : {out : List ℕ} {at : ℕ} {line out' : List ℕ} {r : ℕ} {lines : List (List ℕ)} → lines ≡ line ∷ [] → Wrote out at line out' r → Wrote out at (flatten lines) out' r
+-- a channel's only line
+pub line-of : {out : List ℕ} {at : ℕ} {line out' : List ℕ} {r most : ℕ} {t u : Tuned} (number : ℕ) → t ≡ u → channelLine number u ≡ line ∷ []
+    → (r ≤ most) × Wrote out at line out' r → (r ≤ most) × Wrote out at (flatten (channelLine number t)) out' r
 unfolding flatten
-line-of {out} {at} {line} {out'} {r} {lines} e w = rw (e, append-nil line) w
+line-of {line = line} number e l w = (w .0, rw (e, l, append-nil line) (w .1))

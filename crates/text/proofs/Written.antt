@@ -1,8 +1,7 @@
 -- One text written behind another is the two in a row, so each line is a chain of `then`; and a decimal number digit by digit.
 use Prim.Native.Nat.{ℕ, zero, suc, _+_, _/_, _%_, _^_, _≤_, _<_}
 use native.Mathlib.Nat.{mod-eq-of-lt, div-lt-iff-lt-mul, add-assoc, pow-suc}
-use native.Mathlib.Numerals.{add-one}
-use native.Mathlib.Omega.{arith}
+use native.Mathlib.{Numerals.add-one, Omega.arith}
 use mathlib.Core.Path.{_≡_, sym, ap, _∙_, subst}
 use mathlib.Core.Bool.{Bool, true, false, cond}
 use mathlib.Core.List.{List, [], _∷_, _++_, append-assoc}
@@ -10,8 +9,7 @@ use lib.Dec.{ltb, lit<}
 use lib.ListN.{length, take, drop, set, length-append}
 use lib.Seq.{length-take-le, take-at, drop-append-add, drop-drop, set-split}
 use borrow.Author.Tests.{lt-ltb, le-ltb}
-use Rattle.rules.specs.Holding.{put}
-use Rattle.rules.specs.Lineup.{digits, decimal}
+use Rattle.rules.specs.{Holding.put, Lineup.digits, Lineup.decimal}
 use Rattle.rules.proofs.Store.{put-length}
 use Rattle.text.specs.Written.{Wrote, Counts}
 
@@ -37,7 +35,8 @@ put-then out at t u fits =
     ∙ ap (λ (l : List ℕ). (p ++ u) ++ l) behind
     ∙ ap (λ (l : List ℕ). l ++ drop (at + length (t ++ u)) out) (append-assoc (take at out) t u)
 
-pub then : {out : List ℕ} {at : ℕ} {t out' : List ℕ} {p : ℕ} {u out'' : List ℕ} {r : ℕ} → Wrote out at t out' p → Wrote out' p u out'' r → Wrote out at (t ++ u) out'' r
+pub then : {out : List ℕ} {at : ℕ} {t out' : List ℕ} {p : ℕ} {u out'' : List ℕ} {r : ℕ}
+    → Wrote out at t out' p → Wrote out' p u out'' r → Wrote out at (t ++ u) out'' r
 then {out} {at} {t} {out'} {p} {u} {out''} {r} w x =
     let same : length out' ≡ length out = ap length (w .holds) ∙ put-length out at t (w .room) in
     let fits : at + length t + length u ≤ length out = omega (arith, w .behind, x .room) in
@@ -48,6 +47,10 @@ then {out} {at} {t} {out'} {p} {u} {out''} {r} w x =
       holds =
           x .holds ∙ ap (λ (l : List ℕ). put l p u) (w .holds) ∙ ap (λ (k : ℕ). put (put out at t) k u) (w .behind) ∙ put-then out at t u fits;
     }
+
+-- what was written, with a bound for the place behind it
+pub short : {out : List ℕ} {at : ℕ} {t out' : List ℕ} {r n : ℕ} → Wrote out at t out' r → r ≤ n → (r ≤ n) × Wrote out at t out' r
+short w h = (h, w)
 
 -- what was written is within the buffer
 pub counts : {out : List ℕ} {at : ℕ} {t out' : List ℕ} {r : ℕ} → Wrote out at t out' r → Counts r out'
@@ -87,8 +90,9 @@ more (suc most) n h =
 pub decimal-step : (n : ℕ) → 10 ≤ n → n < 2 ^ 64 → decimal n ≡ decimal (n / 10) ++ ((48 + n % 10) ∷ [])
 unfolding digits
 decimal-step n h b =
+    let low = div-lt-iff-lt-mul {k = 10} {x = n} {y = 10 ^ 19} (lit< tt) .1 (omega arith) in
     rw (decimal-low n b, decimal-low (n / 10) (omega arith))
-    (simp (le-ltb n 10 h) (ap (λ (l : List ℕ). l ++ ((48 + n % 10) ∷ [])) (more 18 (n / 10) (div-lt-iff-lt-mul {k = 10} {x = n} {y = 10 ^ 19} (lit< tt) .1 (omega arith)))))
+    (simp (le-ltb n 10 h) (ap (λ (l : List ℕ). l ++ ((48 + n % 10) ∷ [])) (more 18 (n / 10) low)))
 
 pub decimal-step-length : (n : ℕ) → 10 ≤ n → n < 2 ^ 64 → length (decimal n) ≡ length (decimal (n / 10)) + 1
 decimal-step-length n h b = ap length (decimal-step n h b) ∙ length-append (decimal (n / 10)) ((48 + n % 10) ∷ [])

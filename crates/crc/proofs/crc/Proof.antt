@@ -3,11 +3,5 @@ use borrow.Author.Needs.{needs}
 use Rattle.crc.proofs.crc.Statement.{statement}
 use Rattle.crc.proofs.crc.Tie as tie
 
-crc-from-requires : tie.Need-crc-from-requires
-crc-from-requires c κs = search needs
-
-returns : tie.Need-returns
-returns c = c .crc-from .ensures
-
 pub crc-spec : {M : Type 1} → statement M
-crc-spec = tie.close (tie.spec crc-from-requires returns)
+crc-spec = tie.close (tie.spec (λ c κs. search needs) (λ c. c .crc-from .ensures))

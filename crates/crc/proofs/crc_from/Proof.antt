@@ -16,36 +16,11 @@ Inv-loop start s e₀ i₀ e i = (i + 8 ≤ length s) × (e < 2 ^ 40) × (after 
 abbrev μ-loop : tie.MeasureT-loop
 μ-loop start s e₀ i₀ e i = length s - i
 
-crc-rest-requires : tie.Need-crc-rest-requires Inv-loop μ-loop
-crc-rest-requires c κs = search needs
-
-returns : tie.Need-returns Inv-loop μ-loop
-returns c = c .crc-rest .ensures
-
-four-zeros-requires : tie.Need-four-zeros-requires Inv-loop μ-loop
-four-zeros-requires c κs = search needs
-
-cast-e : tie.Need-cast-e Inv-loop μ-loop
-cast-e c = search needs
-
 loop-holds : tie.Need-loop-holds Inv-loop μ-loop
 loop-holds c =
-    let a = c .before .before .before .args in
-    let b = c .before .before .shared-slice-known .given in
+    let a = c .before .before .before .args in let b = c .before .before .shared-slice-known .given in
     let f = c .four-zeros in
     (omega arith, omega arith, after-starts (a .s .now) (λ j. omega (arith, b j)) (a .start) (f .result) (omega arith) (f .ensures) (omega arith))
-
-sub-loop : tie.Need-sub-loop Inv-loop μ-loop
-sub-loop c = search needs
-
-fold-requires : tie.Need-fold-requires Inv-loop μ-loop
-fold-requires c κs = search needs
-
-add-i : tie.Need-add-i Inv-loop μ-loop
-add-i c = search needs
-
-loop-less : tie.Need-loop-less Inv-loop μ-loop
-loop-less c = search needs
 
 loop-again : tie.Need-loop-again Inv-loop μ-loop
 loop-again c =
@@ -58,37 +33,8 @@ loop-again c =
       after-goes-on s (λ j. omega (arith, b j)) (l .e) (f .result) (l .i) (omega arith) (f .ensures) (omega arith) ∙ l .inv .2,
     )
 
-unfolded-requires : tie.Need-unfolded-requires Inv-loop μ-loop
-unfolded-requires c κs = search needs
-
-add-crc-rest : tie.Need-add-crc-rest Inv-loop μ-loop
-add-crc-rest c = search needs
-
-crc-rest-requires-2 : tie.Need-crc-rest-requires-2 Inv-loop μ-loop
-crc-rest-requires-2 c κs = search needs
-
-returns-2 : tie.Need-returns-2 Inv-loop μ-loop
-returns-2 c =
-    let l = c .before .before .before .loop in
-    c .crc-rest2 .ensures ∙ rw (c .before .unfolded .ensures) (l .inv .2)
-
 pub crc-from-spec : {M : Type 1} → statement M
-crc-from-spec =
-    tie.close
-    (tie.spec
-    Inv-loop
-    μ-loop
-    crc-rest-requires
-    returns
-    four-zeros-requires
-    cast-e
-    loop-holds
-    sub-loop
-    fold-requires
-    add-i
-    loop-less
-    loop-again
-    unfolded-requires
-    add-crc-rest
-    crc-rest-requires-2
-    returns-2)
+crc-from-spec = tie.close (tie.spec Inv-loop μ-loop (λ c κs. search needs) (λ c. c .crc-rest .ensures) (λ c κs. search needs) (λ c. search needs) loop-holds
+    (λ c. search needs) (λ c κs. search needs) (λ c. search needs) (λ c. search needs) loop-again (λ c κs. search needs) (λ c. search needs)
+    (λ c κs. search needs)
+    (λ c. let l = c .before .before .before .loop in c .crc-rest2 .ensures ∙ rw (c .before .unfolded .ensures) (l .inv .2)))

@@ -1,10 +1,8 @@
 -- `crc::crc_rest` meets its contract: what is left of s makes of the register what s makes of the start.
 use mathlib.Core.Path.{_≡_}
 use Prim.Native.Nat.{_-_, _^_, _≤_, _<_}
-use native.Mathlib.Numerals.{add-one}
-use native.Mathlib.Omega.{arith}
-use lib.ListN.{length, drop}
-use lib.Seq.{drop-cons, drop-length}
+use native.Mathlib.{Numerals.add-one, Omega.arith}
+use lib.{ListN.length, ListN.drop, Seq.drop-cons, Seq.drop-length}
 use borrow.Author.Needs.{needs}
 use Rattle.rules.specs.Crc.{crcFrom}
 use Rattle.crc.proofs.Laws.{crc-nil, crc-append}
@@ -17,21 +15,6 @@ Inv-loop start s from reg₀ i₀ reg i = (i ≤ length s) × (reg < 2 ^ 32) × 
 abbrev μ-loop : tie.MeasureT-loop
 μ-loop start s from reg₀ i₀ reg i = length s - i
 
-loop-holds : tie.Need-loop-holds Inv-loop μ-loop
-loop-holds c = search needs
-
-shared-slice-read-byte-step : tie.Need-shared-slice-read-byte-step Inv-loop μ-loop
-shared-slice-read-byte-step c = search needs
-
-byte-step-requires : tie.Need-byte-step-requires Inv-loop μ-loop
-byte-step-requires c κs = search needs
-
-add-i : tie.Need-add-i Inv-loop μ-loop
-add-i c = search needs
-
-loop-less : tie.Need-loop-less Inv-loop μ-loop
-loop-less c = search needs
-
 loop-again : tie.Need-loop-again Inv-loop μ-loop
 loop-again c =
     let l = c .before .before .before .loop in
@@ -39,22 +22,8 @@ loop-again c =
     let h : l .i < length s = omega arith in
     (omega arith, omega arith, rw (c .byte-step .ensures, ← crc-append, add-one) (rw (drop-cons s (l .i) 0) at (l .inv .2)))
 
-returns : tie.Need-returns Inv-loop μ-loop
-returns c =
-    let l = c .before .loop in
-    let e : l .i ≡ length (c .before .before .before .args .s .now) = omega arith in
-    rw (e, drop-length, crc-nil) at (l .inv .2)
-
 pub crc-rest-spec : {M : Type 1} → statement M
-crc-rest-spec =
-    tie.close
-    (tie.spec
-    Inv-loop
-    μ-loop
-    loop-holds
-    shared-slice-read-byte-step
-    byte-step-requires
-    add-i
-    loop-less
+crc-rest-spec = tie.close (tie.spec Inv-loop μ-loop (λ c. search needs) (λ c. search needs) (λ c κs. search needs) (λ c. search needs) (λ c. search needs)
     loop-again
-    returns)
+    (λ c. let l = c .before .loop in let e : l .i ≡ length (c .before .before .before .args .s .now) = omega arith in
+    rw (e, drop-length, crc-nil) at (l .inv .2)))

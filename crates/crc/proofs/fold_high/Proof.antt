@@ -8,33 +8,12 @@ use Rattle.crc.proofs.Folding.{folded-above}
 use Rattle.crc.proofs.fold_high.Statement.{statement}
 use Rattle.crc.proofs.fold_high.Tie as tie
 
-times-96-requires : tie.Need-times-96-requires
-times-96-requires c κs = search needs
-
-times-104-requires : tie.Need-times-104-requires
-times-104-requires c κs = search needs
-
-times-112-requires : tie.Need-times-112-requires
-times-112-requires c κs = search needs
-
-times-120-requires : tie.Need-times-120-requires
-times-120-requires c κs = search needs
-
-returns : tie.Need-returns
-returns c =
-    let a = c .before .before .before .before .args in
+pub fold-high-spec : {M : Type 1} → statement M
+fold-high-spec = tie.close (tie.spec (λ c κs. search needs) (λ c κs. search needs) (λ c κs. search needs) (λ c κs. search needs)
+    (λ c. let a = c .before .before .before .before .args in
     let e : a .first * 2 ^ 56 + (a .second * 2 ^ 48 + (a .third * 2 ^ 40 + a .fourth * 2 ^ 32))
     ≡ four (a .first) (a .second) (a .third) (a .fourth) * 2 ^ 32 = omega arith in
-    rw e at
-    (folded-above 56 (a .first) (omega arith) (omega arith) (omega arith)
+    rw e at (folded-above 56 (a .first) (omega arith) (omega arith) (omega arith)
     (folded-above 48 (a .second) (omega arith) (omega arith) (omega arith)
-    (folded-above 40 (a .third) (omega arith) (omega arith) (omega arith)
-    (c .before .before .before .times-96 .ensures)
-    (c .before .before .times-104 .ensures))
-    (c .before .times-112 .ensures))
-    (c .times-120 .ensures))
-
-pub fold-high-spec : {M : Type 1} → statement M
-fold-high-spec =
-    tie.close
-    (tie.spec times-96-requires times-104-requires times-112-requires times-120-requires returns)
+    (folded-above 40 (a .third) (omega arith) (omega arith) (omega arith) (c .before .before .before .times-96 .ensures)
+    (c .before .before .times-104 .ensures)) (c .before .times-112 .ensures)) (c .times-120 .ensures))))

@@ -4,30 +4,7 @@ use Rattle.rules.specs.Crc.{bitsOf, shiftAll, crcFrom}
 use Rattle.crc.proofs.four_zeros.Statement.{statement}
 use Rattle.crc.proofs.four_zeros.Tie as tie
 
-byte-step-requires : tie.Need-byte-step-requires
-byte-step-requires c κs = search needs
-
-byte-step-requires-2 : tie.Need-byte-step-requires-2
-byte-step-requires-2 c κs = search needs
-
-byte-step-requires-3 : tie.Need-byte-step-requires-3
-byte-step-requires-3 c κs = search needs
-
-byte-step-requires-4 : tie.Need-byte-step-requires-4
-byte-step-requires-4 c κs = search needs
-
-returns : tie.Need-returns
-unfolding crcFrom bitsOf shiftAll
-returns c =
-    rw
-    (c .byte-step4 .ensures, c .before .byte-step3 .ensures, c .before .before .byte-step2 .ensures, c .before .before .before .byte-step .ensures)
-
 pub four-zeros-spec : {M : Type 1} → statement M
-four-zeros-spec =
-    tie.close
-    (tie.spec
-    byte-step-requires
-    byte-step-requires-2
-    byte-step-requires-3
-    byte-step-requires-4
-    returns)
+unfolding crcFrom bitsOf shiftAll
+four-zeros-spec = tie.close (tie.spec (λ c κs. search needs) (λ c κs. search needs) (λ c κs. search needs) (λ c κs. search needs)
+    (λ c. rw (c .byte-step4 .ensures, c .before .byte-step3 .ensures, c .before .before .byte-step2 .ensures, c .before .before .before .byte-step .ensures)))

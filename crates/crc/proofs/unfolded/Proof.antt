@@ -8,45 +8,11 @@ use Rattle.crc.proofs.Folding.{residue-halves}
 use Rattle.crc.proofs.unfolded.Statement.{statement}
 use Rattle.crc.proofs.unfolded.Tie as tie
 
-cast-high : tie.Need-cast-high
-cast-high c = search needs
-
-word-at-requires : tie.Need-word-at-requires
-word-at-requires c κs = search needs
-
-cast-low : tie.Need-cast-low
-cast-low c = search needs
-
-add-word-at : tie.Need-add-word-at
-add-word-at c = search needs
-
-word-at-requires-2 : tie.Need-word-at-requires-2
-word-at-requires-2 c κs = search needs
-
-four-zeros-requires : tie.Need-four-zeros-requires
-four-zeros-requires c κs = search needs
-
-four-zeros-requires-2 : tie.Need-four-zeros-requires-2
-four-zeros-requires-2 c κs = search needs
-
-returns : tie.Need-returns
+pub unfolded-spec : {M : Type 1} → statement M
 unfolding eightAt
-returns c =
-    let a = c .before .before .before .before .before .args in
-    let l = c .before .before .word-at2 in
+unfolded-spec = tie.close (tie.spec (λ c. search needs) (λ c κs. search needs) (λ c. search needs) (λ c. search needs) (λ c κs. search needs)
+    (λ c κs. search needs) (λ c κs. search needs)
+    (λ c. let a = c .before .before .before .before .before .args in let l = c .before .before .word-at2 in
     let h : fourAt (a .s .now) (a .i + 4) < 2 ^ 32 = omega arith in
     rw (c .four-zeros2 .ensures, c .before .four-zeros .ensures, c .before .before .before .word-at .ensures, l .ensures)
-    (ap (zeros 4) (residue-halves (a .e) (fourAt (a .s .now) (a .i)) (fourAt (a .s .now) (a .i + 4)) h))
-
-pub unfolded-spec : {M : Type 1} → statement M
-unfolded-spec =
-    tie.close
-    (tie.spec
-    cast-high
-    word-at-requires
-    cast-low
-    add-word-at
-    word-at-requires-2
-    four-zeros-requires
-    four-zeros-requires-2
-    returns)
+    (ap (zeros 4) (residue-halves (a .e) (fourAt (a .s .now) (a .i)) (fourAt (a .s .now) (a .i + 4)) h))))

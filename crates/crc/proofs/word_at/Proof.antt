@@ -8,61 +8,16 @@ use Rattle.crc.proofs.Folding.{or-four}
 use Rattle.crc.proofs.word_at.Statement.{statement}
 use Rattle.crc.proofs.word_at.Tie as tie
 
-shared-slice-read-result : tie.Need-shared-slice-read-result
-shared-slice-read-result c = search needs
-
-cast-result : tie.Need-cast-result
-cast-result c = omega (arith, c .shared-slice-known .given (c .before .args .i))
-
-add-result : tie.Need-add-result
-add-result c = search needs
-
-shared-slice-read-result-2 : tie.Need-shared-slice-read-result-2
-shared-slice-read-result-2 c = search needs
-
-cast-result-2 : tie.Need-cast-result-2
-cast-result-2 c = omega (arith, c .shared-slice-known2 .given (c .before .before .args .i + 1))
-
-add-result-2 : tie.Need-add-result-2
-add-result-2 c = search needs
-
-shared-slice-read-result-3 : tie.Need-shared-slice-read-result-3
-shared-slice-read-result-3 c = search needs
-
-cast-result-3 : tie.Need-cast-result-3
-cast-result-3 c = omega (arith, c .shared-slice-known3 .given (c .before .before .before .args .i + 2))
-
-add-result-3 : tie.Need-add-result-3
-add-result-3 c = search needs
-
-shared-slice-read-result-4 : tie.Need-shared-slice-read-result-4
-shared-slice-read-result-4 c = search needs
-
-cast-result-4 : tie.Need-cast-result-4
-cast-result-4 c = omega (arith, c .shared-slice-known4 .given (c .before .before .before .before .args .i + 3))
-
-returns : tie.Need-returns
-unfolding fourAt
-returns c =
-    let s = c .before .before .before .before .args .s .now in
-    let i = c .before .before .before .before .args .i in
-    let b = c .shared-slice-known4 .given in
-    or-four (getD s i 0) (getD s (i + 1) 0) (getD s (i + 2) 0) (getD s (i + 3) 0)
-    (omega (arith, b i)) (omega (arith, b (i + 1))) (omega (arith, b (i + 2))) (omega (arith, b (i + 3)))
-
 pub word-at-spec : {M : Type 1} → statement M
-word-at-spec =
-    tie.close
-    (tie.spec
-    shared-slice-read-result
-    cast-result
-    add-result
-    shared-slice-read-result-2
-    cast-result-2
-    add-result-2
-    shared-slice-read-result-3
-    cast-result-3
-    add-result-3
-    shared-slice-read-result-4
-    cast-result-4
-    returns)
+unfolding fourAt
+word-at-spec = tie.close (tie.spec (λ c. search needs)
+    (λ c. omega (arith, c .shared-slice-known .given (c .before .args .i)))
+    (λ c. search needs) (λ c. search needs)
+    (λ c. omega (arith, c .shared-slice-known2 .given (c .before .before .args .i + 1)))
+    (λ c. search needs) (λ c. search needs)
+    (λ c. omega (arith, c .shared-slice-known3 .given (c .before .before .before .args .i + 2)))
+    (λ c. search needs) (λ c. search needs)
+    (λ c. omega (arith, c .shared-slice-known4 .given (c .before .before .before .before .args .i + 3)))
+    (λ c. let s = c .before .before .before .before .args .s .now in let i = c .before .before .before .before .args .i in
+    let b = c .shared-slice-known4 .given in or-four (getD s i 0) (getD s (i + 1) 0) (getD s (i + 2) 0) (getD s (i + 3) 0) (omega (arith, b i))
+    (omega (arith, b (i + 1))) (omega (arith, b (i + 2))) (omega (arith, b (i + 3)))))

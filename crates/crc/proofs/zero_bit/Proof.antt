@@ -7,13 +7,8 @@ use Rattle.rules.specs.Crc.{shift}
 use Rattle.crc.proofs.zero_bit.Statement.{statement}
 use Rattle.crc.proofs.zero_bit.Tie as tie
 
-returns : tie.Need-returns
-unfolding shift
-returns c = rw (ne-eqb (c .before .args .r / 2 ^ 31) 0 (λ e. omega arith)) refl
-
-returns-2 : tie.Need-returns-2
-unfolding shift
-returns-2 c = rw (eq-eqb (c .before .args .r / 2 ^ 31) 0 (omega arith)) refl
-
 pub zero-bit-spec : {M : Type 1} → statement M
-zero-bit-spec = tie.close (tie.spec returns returns-2)
+unfolding shift
+zero-bit-spec = tie.close (tie.spec
+    (λ c. rw (ne-eqb (c .before .args .r / 2 ^ 31) 0 (λ e. omega arith)) refl)
+    (λ c. rw (eq-eqb (c .before .args .r / 2 ^ 31) 0 (omega arith)) refl))

@@ -7,10 +7,5 @@ use Rattle.text.proofs.put_byte.Statement.{statement}
 use Rattle.text.proofs.put_byte.Tie as tie
 
 pub put-byte-spec : {M : Type 1} → statement M
-put-byte-spec =
-    tie.close
-    (tie.spec
-    (λ c. search needs)
-    (λ c. search needs)
-    (λ c. search needs)
+put-byte-spec = tie.close (tie.spec (λ c. search needs) (λ c. search needs) (λ c. search needs)
     (λ c. record { room = omega (arith, c .pre); behind = refl; holds = put-one _ _ _ (c .pre) }))

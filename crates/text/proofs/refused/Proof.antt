@@ -5,9 +5,6 @@ use Rattle.text.proofs.Written.{counts}
 use Rattle.text.proofs.refused.Statement.{statement}
 use Rattle.text.proofs.refused.Tie as tie
 
-returns : tie.Need-returns
-unfolding text
-returns c = (c .put .ensures, counts (c .put .ensures))
-
 pub refused-spec : {M : Type 1} → statement M
-refused-spec = tie.close (tie.spec (λ c. search needs) (λ c κs. search needs) returns)
+unfolding text
+refused-spec = tie.close (tie.spec (λ c. search needs) (λ c κs. search needs) (λ c. (c .put .ensures, counts (c .put .ensures))))

@@ -5,24 +5,7 @@ use borrow.Author.Needs.{needs}
 use Rattle.trials.proofs.digital_number.Statement.{statement}
 use Rattle.trials.proofs.digital_number.Tie as tie
 
-returns : tie.Need-returns
-unfolding digitalNumber
-returns c = refl
-
 pub digital-number-spec : {M : Type 1} → statement M
-digital-number-spec =
-    tie.close
-    (tie.spec
-    (λ c. search needs)
-    (λ c. search needs)
-    (λ c. search needs)
-    (λ c. search needs)
-    (λ c. search needs)
-    (λ c. search needs)
-    (λ c. search needs)
-    (λ c. search needs)
-    (λ c. search needs)
-    (λ c. search needs)
-    (λ c. search needs)
-    (λ c. search needs)
-    returns)
+unfolding digitalNumber
+digital-number-spec = tie.close (tie.spec (λ c. search needs) (λ c. search needs) (λ c. search needs) (λ c. search needs) (λ c. search needs)
+    (λ c. search needs) (λ c. search needs) (λ c. search needs) (λ c. search needs) (λ c. search needs) (λ c. search needs) (λ c. search needs) (λ c. refl))

@@ -5,11 +5,7 @@ use borrow.Author.Needs.{needs}
 use Rattle.trials.proofs.head_number.Statement.{statement}
 use Rattle.trials.proofs.head_number.Tie as tie
 
-returns : tie.Need-returns
-unfolding headNumber
-returns c = refl
-
 pub head-number-spec : {M : Type 1} → statement M
-head-number-spec =
-    tie.close
-    (tie.spec (λ c. search needs) (λ c. search needs) (λ c. search needs) (λ c. search needs) (λ c. search needs) (λ c. search needs) returns)
+unfolding headNumber
+head-number-spec = tie.close (tie.spec (λ c. search needs) (λ c. search needs) (λ c. search needs) (λ c. search needs) (λ c. search needs) (λ c. search needs)
+    (λ c. refl))
