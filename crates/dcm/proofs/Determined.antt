@@ -9,17 +9,13 @@ use prog.Routine.{Routine}
 use prog.Wp.{Heap}
 use Rattle.rules.proofs.Determined.{Determined, determined-by, determined-once}
 use Rattle.fields.proofs.Laws.{stands-once}
-use Rattle.dcm.proofs.head_zeros
-use Rattle.dcm.proofs.head_of
+use Rattle.dcm.proofs.outline
 use Rattle.dcm.proofs.range_of
 use Rattle.dcm.proofs.past_ranges
 
 module _ {M : Type 1} (𝓤 : URA M) (H : Heap 𝓤) (A : Atoms 𝓤) (mem : Memory → SProp 𝓤) (run : Routine → Fun 𝓤) where
-  pub head_zeros-determined : Determined 𝓤 {T = head_zeros.ended} (head_zeros.clauses 𝓤 H A mem run) (λ κs r e. r)
-  head_zeros-determined = determined-by 𝓤 {T = head_zeros.ended} (head_zeros.clauses 𝓤 H A mem run) _ _ (λ κs a g r e. id⊢ 𝓤 _)
-
-  pub head_of-determined : Determined 𝓤 {T = head_of.ended} (head_of.clauses 𝓤 H A mem run) (λ κs r e. r)
-  head_of-determined = determined-by 𝓤 {T = head_of.ended} (head_of.clauses 𝓤 H A mem run) _ _ (λ κs a g r e. id⊢ 𝓤 _)
+  pub outline-determined : Determined 𝓤 {T = outline.ended} (outline.clauses 𝓤 H A mem run) (λ κs r e. r)
+  outline-determined = determined-by 𝓤 {T = outline.ended} (outline.clauses 𝓤 H A mem run) _ _ (λ κs a g r e. id⊢ 𝓤 _)
 
   pub range_of-determined : Determined 𝓤 {T = range_of.ended} (range_of.clauses 𝓤 H A mem run) (λ κs r e. r)
   range_of-determined = determined-by 𝓤 {T = range_of.ended} (range_of.clauses 𝓤 H A mem run) _ _ (λ κs a g r e. id⊢ 𝓤 _)

@@ -44,7 +44,7 @@ pub record SaidClauses : Type 0 where
   pub analogue : tunedSaid (Tuned.Analogue 1 0 63000 4 5) ≡ record { refusal = 0; word = "analogue"; values = 63000 ∷ 4 ∷ 5 ∷ 0 ∷ 1 ∷ [] }
   pub application : tunedSaid (Tuned.Application 1 0 7) ≡ record { refusal = 0; word = "application"; values = 7 ∷ 0 ∷ 1 ∷ [] }
   -- the four questions, in these terms
-  pub to-section : sectionSaid plantDcm ≡ record { refusal = 0; word = "reads right"; values = 3 ∷ 258 ∷ 5 ∷ 0 ∷ 0 ∷ 10 ∷ 3 ∷ 13 ∷ [] }
+  pub to-section : sectionSaid plantDcm ≡ record { refusal = 0; word = "reads right"; values = 3 ∷ 258 ∷ 5 ∷ 0 ∷ 0 ∷ 13 ∷ [] }
   pub to-descriptor :
       map (λ tag. askSaid tag plantDcm) (0x93 ∷ 0x94 ∷ [])
       ≡ record { refusal = 0; word = "part"; values = 15 ∷ 3 ∷ [] } ∷ record { refusal = 0; word = "none"; values = [] } ∷ []

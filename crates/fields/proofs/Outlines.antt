@@ -55,23 +55,34 @@ laid Dcm = record { seven = λ b. refl; zeros = zeros-are; layout = λ y. refl; 
 
 module _ (b : List ℕ) where
   -- 0xC2 has its first index and its count in the header, and no head
-  pub counted-no : (first : ℕ) → first ≡ byte 4 b → first ≡ 0 → Refused 10 ≡ outlineOf Cds b
+  refused-zero : (first : ℕ) → first ≡ byte 4 b → first ≡ 0 → Refused 10 ≡ outlineOf Cds b
   unfolding outlineOf outlinedAs fronted unless headerOf countedHeader
-  counted-no first e z = rw (header-byte b 1 (omega arith), ← e, z)
+  refused-zero first e z = rw (header-byte b 1 (omega arith), ← e, z)
 
-  pub counted-so : (first count : ℕ) → first ≡ byte 4 b → count ≡ byte 5 b → (first ≡ 0 → ⊥)
+  right-behind : (first count : ℕ) → first ≡ byte 4 b → count ≡ byte 5 b → (first ≡ 0 → ⊥)
       → Records (record { at = 7; map = 0; first = first; count = count; included = 0 }) ≡ outlineOf Cds b
   unfolding outlineOf outlinedAs fronted inFront recordsAt taken unless giving headerOf countedHeader noHead
-  counted-so first count e f n =
+  right-behind first count e f n =
       rw (header-byte b 1 (omega arith), header-byte b 2 (omega arith), ← e, ← f, lt-ltb 0 first (omega arith), le-leb 0 (length (from b 7)) (omega arith))
 
-  pub counted-alike : outlineOf Cds b ≡ outlineOf Mms b
+  counted-alike : outlineOf Cds b ≡ outlineOf Mms b
   unfolding outlineOf outlinedAs fronted inFront recordsAt headerOf
   counted-alike = go (fronted Cds b)
     where
       go : (g : Got Front) → outlinedAs Cds b g ≡ outlinedAs Mms b g
       go (refused n) = refl
       go (got y rest) = refl
+
+  both : {r : Outlined} → r ≡ outlineOf Cds b → (r ≡ outlineOf Cds b) × (r ≡ outlineOf Mms b)
+  both e = (e, e ∙ counted-alike)
+
+  pub counted-no : (first : ℕ) → first ≡ byte 4 b → first ≡ 0 → (Refused 10 ≡ outlineOf Cds b) × (Refused 10 ≡ outlineOf Mms b)
+  counted-no first e z = both (refused-zero first e z)
+
+  pub counted-so : (first count : ℕ) → first ≡ byte 4 b → count ≡ byte 5 b → (first ≡ 0 → ⊥)
+      → let r = Records (record { at = 7; map = 0; first = first; count = count; included = 0 }) in
+      (r ≡ outlineOf Cds b) × (r ≡ outlineOf Mms b)
+  counted-so first count e f n = both (right-behind first count e f n)
 
   -- 0xC4 has its map number in the header
   pub map-is : (map : ℕ) → map ≡ word 5 b → map ≡ mapHeader .look (from (take 7 b) 3) .map

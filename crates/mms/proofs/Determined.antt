@@ -8,10 +8,14 @@ use prog.Routine.{Routine}
 use prog.Wp.{Heap}
 use Rattle.rules.proofs.Determined.{Determined, determined-by, determined-once}
 use Rattle.fields.proofs.Laws.{stands-once}
+use Rattle.mms.proofs.outline
 use Rattle.mms.proofs.mode_of
 use Rattle.mms.proofs.past_modes
 
 module _ {M : Type 1} (𝓤 : URA M) (H : Heap 𝓤) (A : Atoms 𝓤) (mem : Memory → SProp 𝓤) (run : Routine → Fun 𝓤) where
+  pub outline-determined : Determined 𝓤 {T = outline.ended} (outline.clauses 𝓤 H A mem run) (λ κs r e. r)
+  outline-determined = determined-by 𝓤 {T = outline.ended} (outline.clauses 𝓤 H A mem run) _ _ (λ κs a g r e. id⊢ 𝓤 _)
+
   pub mode_of-determined : Determined 𝓤 {T = mode_of.ended} (mode_of.clauses 𝓤 H A mem run) (λ κs r e. r)
   mode_of-determined = determined-by 𝓤 {T = mode_of.ended} (mode_of.clauses 𝓤 H A mem run) _ _ (λ κs a g r e. id⊢ 𝓤 _)
 
