@@ -24,8 +24,8 @@ ERROR = re.compile(r"^(\S+):(\d+):\d+: error: `([^`]+)`: (.*)$")
 FOLLOWS = re.compile(r"`[^`]+` (?:was not admitted|cannot be unfolded because it was not admitted)|.*is not in scope")
 PUBLIC = re.compile(r'^pub (?:extern "C" )?fn (\w+)', re.MULTILINE)
 MODULE = re.compile(r"^pub mod (\w+);", re.MULTILINE)
-# lent numbers of which only what they mean is promised: docs/PROMISES.md, "The exceptions"
-BY_MEANING = {("search", "list_records")}
+# what is read from outside decides these: docs/PROMISES.md, "The exceptions"
+BY_READING = {("capture", "follow"), ("capture", "gather")}
 
 
 def fail(text):
@@ -149,7 +149,7 @@ def promised(root, labels, refusing, edits):
         crate = source.parent.parent.name
         theorems = source.parent.parent / "proofs" / "Determined.antt"
         for function in public_functions(source):
-            says = "" if (crate, function) in BY_MEANING else " Determined "
+            says = "" if (crate, function) in BY_READING else " Determined "
             if not theorems.is_file() or f"pub {function}-determined :{says}" not in theorems.read_text(encoding="utf-8"):
                 fail(f"{theorems} has no {function}-determined, or it doesn't say 'Determined'")
             if not re.search(rf"^\*\*`{crate}::(?:\w+::)?{function}\(", promises, re.MULTILINE):

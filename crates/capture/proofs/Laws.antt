@@ -4,11 +4,8 @@ use native.Mathlib.Omega.{arith}
 use mathlib.Core.Path.{_≡_, refl, ap, _∙_}
 use mathlib.Core.List.{List, [], _∷_, _++_}
 use lib.ListN.{take}
-use Rattle.rules.specs.Bytes.{from}
-use Rattle.rules.specs.Feeding.{Intake, feed, feedAll}
-use Rattle.stream.specs.declared.Tally.{Tally}
-use Rattle.stream.specs.declared.Absorbed.{Absorbed}
-use Rattle.stream.specs.Tallied.{intakeOf, Grew}
+use Rattle.rules.specs.{Bytes.from, Feeding.Intake, Feeding.feed, Feeding.feedAll}
+use Rattle.stream.specs.{declared.Tally.Tally, declared.Absorbed.Absorbed, Tallied.intakeOf, Tallied.Grew}
 use Rattle.capture.specs.Read.{heldIn, Fed}
 
 one-more-fed : (i : Intake) (ps : List (List ℕ)) (p : List ℕ) → feed (feedAll i ps) p ≡ feedAll i (ps ++ (p ∷ []))
@@ -33,7 +30,9 @@ module _ {i : Intake} {t : Tally} {n : ℕ} {h : Absorbed} {store buffer : List 
       }
 
   -- a piece was read behind what is kept
-  pub fed-one : (r : Absorbed) (store' buffer' buffer'' : List ℕ) (got m : ℕ) → take (h .kept) buffer' ≡ take (h .kept) buffer → intakeOf (r .tally) store' (take (r .kept) buffer'') ≡ feed (intakeOf (h .tally) store (take (h .kept) buffer')) (take got (from buffer' (h .kept))) → r .kept ≤ 4097 → Grew (h .tally) (r .tally) m → n + m ≤ k → Fed i t k r store' buffer''
+  pub fed-one : (r : Absorbed) (store' buffer' buffer'' : List ℕ) (got m : ℕ) → take (h .kept) buffer' ≡ take (h .kept) buffer
+      → intakeOf (r .tally) store' (take (r .kept) buffer'') ≡ feed (intakeOf (h .tally) store (take (h .kept) buffer')) (take got (from buffer' (h .kept)))
+      → r .kept ≤ 4097 → Grew (h .tally) (r .tally) m → n + m ≤ k → Fed i t k r store' buffer''
   unfolding heldIn
   fed-one r store' buffer' buffer'' got m same e short grew le =
       let piece = take got (from buffer' (h .kept)) in

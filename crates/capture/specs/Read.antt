@@ -1,12 +1,9 @@
 -- What the loop has made of what it read. A contract cannot say which bytes a read gives: this says that some pieces were fed.
 use Prim.Native.Nat.{ℕ, _≤_}
-use mathlib.Core.Path.{_≡_}
-use mathlib.Core.List.{List}
+use mathlib.Core.{Path._≡_, List.List}
 use lib.ListN.{take}
 use Rattle.rules.specs.Feeding.{Intake, feedAll}
-use Rattle.stream.specs.declared.Tally.{Tally}
-use Rattle.stream.specs.declared.Absorbed.{Absorbed}
-use Rattle.stream.specs.Tallied.{intakeOf, Grew}
+use Rattle.stream.specs.{declared.Tally.Tally, declared.Absorbed.Absorbed, Tallied.intakeOf, Tallied.Grew}
 
 -- the bytes kept are at the front of the buffer
 unfoldable pub heldIn : Absorbed → (store buffer : List ℕ) → Intake

@@ -20,4 +20,6 @@ module _ {M : Type 1} (𝓤 : URA M) (H : Heap 𝓤) (A : Atoms 𝓤) (mem : Mem
   carriers_of-determined = determined-by 𝓤 {T = carriers_of.ended} (carriers_of.clauses 𝓤 H A mem run) _ _ (λ κs a g r e. id⊢ 𝓤 _)
 
   pub past_carriers-determined : Determined 𝓤 {T = past_carriers.ended} (past_carriers.clauses 𝓤 H A mem run) (λ κs r e. r)
-  past_carriers-determined = determined-once 𝓤 {T = past_carriers.ended} (past_carriers.clauses 𝓤 H A mem run) _ _ (λ κs a g r e. id⊢ 𝓤 _) (λ κs a g r r′ e e′ s t. stands-once _ r r′ _ s t)
+  past_carriers-determined =
+      determined-once 𝓤 {T = past_carriers.ended} (past_carriers.clauses 𝓤 H A mem run) _ _ (λ κs a g r e. id⊢ 𝓤 _)
+      (λ κs a g r r′ e e′ s t. stands-once _ r r′ _ s t)

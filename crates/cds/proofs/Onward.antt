@@ -3,18 +3,13 @@ use Prim.Native.Nat.{ℕ, _+_, _-_, _≤_, _<_}
 use native.Mathlib.Omega.{arith}
 use mathlib.Core.Path.{_≡_, sym, ap, _∙_}
 use mathlib.Core.List.{List}
-use lib.ListN.{getD, take}
-use lib.Dec.{leb, ltb, lit<}
+use lib.{ListN.getD, ListN.take, Dec.leb, Dec.ltb, Dec.lit<}
 use borrow.Author.Tests.{leb-true}
-use Rattle.rules.specs.Bytes.{byte, from}
-use Rattle.rules.specs.Layout.{entry}
-use Rattle.rules.specs.Tables.{carriersOf, carriersFair, cds}
+use Rattle.rules.specs.{Bytes.byte, Bytes.from, Layout.entry, Tables.carriersOf, Tables.carriersFair, Tables.cds}
 use Rattle.rules.proofs.Taken.{both-right}
-use Rattle.fields.specs.Place.{Stands, Reaches}
-use Rattle.fields.specs.declared.Skip.{Skip}
+use Rattle.fields.specs.{Place.Stands, Place.Reaches, declared.Skip.Skip}
 use Rattle.fields.specs.declared.Skip.the-variants.{At}
-use Rattle.fields.proofs.Laws.{first-byte}
-use Rattle.fields.proofs.Walks.{turn, turn-fair}
+use Rattle.fields.proofs.{Laws.first-byte, Walks.turn, Walks.turn-fair}
 
 module _ {b : List ℕ} (at index : ℕ) {r : Skip} (s : Stands b r (entry cds index (from b at))) {i : ℕ} (e : r ≡ At i) where
   pub low : index + getD b at 0 ≤ 256

@@ -21,4 +21,6 @@ module _ {M : Type 1} (𝓤 : URA M) (H : Heap 𝓤) (A : Atoms 𝓤) (mem : Mem
   range_of-determined = determined-by 𝓤 {T = range_of.ended} (range_of.clauses 𝓤 H A mem run) _ _ (λ κs a g r e. id⊢ 𝓤 _)
 
   pub past_ranges-determined : Determined 𝓤 {T = past_ranges.ended} (past_ranges.clauses 𝓤 H A mem run) (λ κs r e. r)
-  past_ranges-determined = determined-once 𝓤 {T = past_ranges.ended} (past_ranges.clauses 𝓤 H A mem run) _ _ (λ κs a g r e. id⊢ 𝓤 _) (λ κs a g r r′ e e′ s t. stands-once _ r r′ _ s t)
+  past_ranges-determined =
+      determined-once 𝓤 {T = past_ranges.ended} (past_ranges.clauses 𝓤 H A mem run) _ _ (λ κs a g r e. id⊢ 𝓤 _)
+      (λ κs a g r r′ e e′ s t. stands-once _ r r′ _ s t)

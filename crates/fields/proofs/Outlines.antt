@@ -2,24 +2,18 @@
 use Prim.Native.Nat.{ℕ, _+_, _/_, _≤_, _<_}
 use native.Mathlib.Omega.{arith}
 use mathlib.Core.Path.{_≡_, refl, sym, ap, subst, _∙_}
-use mathlib.Core.Bool.{true, _&&_}
-use mathlib.Core.List.{List}
-use lib.ListN.{length, take}
-use lib.Dec.{eqb}
-use lib.Seq.{getD-take}
+use mathlib.Core.{Bool.true, Bool._&&_, List.List}
+use lib.{ListN.length, ListN.take, Dec.eqb, Seq.getD-take}
 use borrow.Author.Tests.{le-leb, lt-ltb}
 use Rattle.rules.specs.Bytes.{Got, refused, got, unless, giving, byte, word, from}
 use Rattle.rules.specs.Layout.{extent, taken, Layout, numbered, records}
 use Rattle.rules.specs.Tables.{cds, mms, vcm, dcm}
 use Rattle.rules.specs.Form.{Front, protocolZeros, countedHeader, noHead, mapHeader, form}
-use Rattle.rules.specs.Section.{headerOf, inFront}
-use Rattle.rules.specs.declared.Table.{Table}
+use Rattle.rules.specs.{Section.headerOf, Section.inFront, declared.Table.Table}
 use Rattle.rules.specs.declared.Table.the-variants.{Cds, Mms, Vcm, Dcm}
-use Rattle.rules.proofs.Taken.{unless-got, giving-got, taken-got}
-use Rattle.rules.proofs.Places.{byte-part, from-from, from-length}
+use Rattle.rules.proofs.{Taken.unless-got, Taken.giving-got, Taken.taken-got, Places.byte-part, Places.from-from, Places.from-length}
 use Rattle.fields.specs.Outline.{headerSays, behindHeader, recordsAt, layoutOf, outlinedAs, fronted, outlineOf}
-use Rattle.fields.specs.declared.Outline.{Outline}
-use Rattle.fields.specs.declared.Outlined.{Outlined}
+use Rattle.fields.specs.{declared.Outline.Outline, declared.Outlined.Outlined}
 use Rattle.fields.specs.declared.Outlined.the-variants.{Refused, Records}
 
 -- ---- the bytes of the header
@@ -105,7 +99,8 @@ module _ (t : Table) (b : List ℕ) (fair : form t .limits (headerSays t b) ≡ 
   unfolding outlineOf outlinedAs fronted inFront unless giving
   head-so h rest e =
       let y = form t .joined (headerSays t b) h in
-      rw (fair, laid t .seven b, e) (ap (λ (n : ℕ). Records (record { at = n; map = y .map; first = y .first; count = y .count; included = y .included })) (sym records-at))
+      rw (fair, laid t .seven b, e) (ap (λ (n : ℕ). Records (record { at = n; map = y .map; first = y .first; count = y .count; included = y .included }))
+      (sym records-at))
 
 -- ---- what an outline says of the section
 

@@ -2,8 +2,7 @@
 use Prim.Native.Nat.{ℕ, zero, suc, _+_, _-_, _≤_, _<_}
 use native.Mathlib.Omega.{arith}
 use mathlib.Core.Path.{_≡_, refl, sym, ap, _∙_}
-use mathlib.Core.Bool.{true}
-use mathlib.Core.List.{List, _∷_}
+use mathlib.Core.{Bool.true, List.List, List._∷_}
 use lib.ListN.{length, take}
 use Rattle.rules.specs.Bytes.{got, andThen, from}
 use Rattle.rules.specs.Layout.{extent, Layout, Numbered, numbered, entry, after, records}
@@ -51,7 +50,8 @@ module _ {R : Type 0} (l : Layout R) where
       pub stop : {n : ℕ} → r ≡ Refused n → Stands b (Refused n) (records l count first (from b start))
       stop {n} e = record { means = refused-here n left _ some e (w .same); within = tt }
 
-  pub end : {b : List ℕ} {start first count at index left : ℕ} → Reaches l b start first count at index left → left ≤ 0 → Stands b (At at) (records l count first (from b start))
+  pub end : {b : List ℕ} {start first count at index left : ℕ} → Reaches l b start first count at index left → left ≤ 0
+      → Stands b (At at) (records l count first (from b start))
   unfolding leftOf records
   end {left = left} w h = let z : left ≡ 0 = omega arith in record { means = sym (w .same ∙ rw z); within = w .within }
 

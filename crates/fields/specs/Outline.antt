@@ -4,11 +4,7 @@ use Prim.Native.Nat.{ℕ, _+_}
 use mathlib.Core.List.{List}
 use lib.ListN.{take}
 use Rattle.rules.specs.Bytes.{Got, refused, got, unless, from}
-use Rattle.rules.specs.Layout.{extent, Layout}
-use Rattle.rules.specs.Form.{Front, form}
-use Rattle.rules.specs.Section.{headerOf, inFront}
-use Rattle.rules.specs.declared.Table.{Table}
-use Rattle.fields.specs.declared.Outline.{Outline}
+use Rattle.rules.specs.{Layout.extent, Layout.Layout, Form.Front, Form.form, Section.headerOf, Section.inFront, declared.Table.Table}
 use Rattle.fields.specs.declared.Outlined.{Outlined}
 use Rattle.fields.specs.declared.Outlined.the-variants.{Refused, Records}
 

@@ -1,8 +1,7 @@
 -- The number that each case of the reader's answer stands for.
 use Prim.Native.Nat.{ℕ}
 use native.Mathlib.Omega.{arith}
-use mathlib.Core.Path.{_≡_, refl}
-use mathlib.Core.List.{List}
+use mathlib.Core.{Path._≡_, Path.refl, List.List}
 use Rattle.rules.specs.Section.{Reading, wrong, right, checkOf, readAs}
 use Rattle.rules.specs.declared.SectionHead.{SectionHead}
 use Rattle.rules.specs.declared.Read.the-variants.{Refused, Right}

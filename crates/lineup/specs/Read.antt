@@ -1,8 +1,7 @@
 -- What the program prints. A contract cannot say which bytes a read gives: it is the line-up of some input that begins with the map number that
 -- was read.
 use Prim.Native.Nat.{ℕ, _<_}
-use mathlib.Core.Path.{_≡_}
-use mathlib.Core.List.{List, [], _++_}
+use mathlib.Core.{Path._≡_, List.List, List.[], List._++_}
 use lib.ListN.{length}
 use Rattle.rules.specs.Lineup.{lineup}
 

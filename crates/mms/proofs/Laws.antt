@@ -2,15 +2,12 @@
 -- bits can have; a list of such values holds no higher one.
 use Prim.Native.Nat.{ℕ, _/_, _%_, _^_, _<_}
 use native.Mathlib.Omega.{arith}
-use mathlib.Core.Path.{_≡_, refl, sym}
+use mathlib.Core.{Path._≡_, Path.refl, Path.sym, List.List, List.[], List._∷_}
 use mathlib.Core.Bool.{Bool, true, false, _&&_}
-use mathlib.Core.List.{List, [], _∷_}
 use lib.Dec.{eqb, leb}
 use borrow.Author.Tests.{leb-true, ne-eqb}
-use Rattle.rules.specs.Tables.{among}
-use Rattle.rules.specs.Tuning.{every}
-use Rattle.rules.proofs.Taken.{both-left, both-right}
-use Rattle.rules.proofs.LivePlaces.{every-at}
+use Rattle.rules.specs.{Tables.among, Tuning.every}
+use Rattle.rules.proofs.{Taken.both-left, Taken.both-right, LivePlaces.every-at}
 
 abbrev alike : Bool → Bool → Bool
 alike true b = b

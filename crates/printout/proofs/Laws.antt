@@ -1,27 +1,20 @@
 -- The lines of the channels one by one, from 0 on; and where the checks of tuning are not passed there is none.
 use Prim.Native.Nat.{ℕ, zero, suc, _+_, _≤_}
-use native.Mathlib.Nat.{add-zero, zero-add}
-use native.Mathlib.Numerals.{add-one}
-use native.Mathlib.Omega.{arith}
+use native.Mathlib.{Nat.add-zero, Nat.zero-add, Numerals.add-one, Omega.arith}
 use mathlib.Core.Path.{_≡_, refl, sym, ap, _∙_}
 use mathlib.Core.Bool.{Bool, true, false}
 use mathlib.Core.List.{List, [], _∷_, _++_, flatten, append-nil, append-assoc}
 use lib.Dec.{leb, ltb}
 use lib.ListN.{length, getD, replicate, length-append, length-replicate, getD-replicate, List·getD-eq-default}
 use borrow.Author.Tests.{leb-true, leb-false, ltb-true, ltb-false}
-use Rattle.rules.specs.Tuning.{tune}
-use Rattle.rules.specs.Lineup.{channelLine, channelLines, linesOf}
-use Rattle.rules.specs.declared.State.{State}
-use Rattle.rules.specs.declared.Tuned.{Tuned}
+use Rattle.rules.specs.{Tuning.tune, Lineup.channelLine, Lineup.channelLines, Lineup.linesOf, declared.State.State, declared.Tuned.Tuned}
 use Rattle.rules.specs.declared.Tuned.the-variants as Tuned
 use Rattle.search.specs.Listing.{Blank}
 use Rattle.tuner.specs.Checks.{checks}
 use Rattle.tuner.proofs.Laws.{refused-early, refused-high, refused-late}
 use Rattle.text.specs.Written.{Wrote, Counts}
-use Rattle.text.proofs.Written.{then, counts}
-use Rattle.text.proofs.Lines.{nothing}
-use Rattle.printout.specs.declared.Lines.{Lines}
-use Rattle.printout.specs.Lines.{boxOf, Adds, Below}
+use Rattle.text.proofs.{Written.then, Written.counts, Lines.nothing}
+use Rattle.printout.specs.{declared.Lines.Lines, Lines.boxOf, Lines.Adds, Lines.Below}
 
 -- ---- one channel more
 
@@ -44,7 +37,8 @@ pub below-0 : (tuned : ℕ → Tuned) (out : List ℕ) → Below tuned 0 out out
 unfolding channelLines flatten
 below-0 tuned out = record { wrote = nothing out 0 (omega arith); count = refl; short = omega arith; few = omega arith }
 
-pub below-more : {tuned : ℕ → Tuned} {number : ℕ} {out out' : List ℕ} {a : Lines} {out'' : List ℕ} {r : Lines} → Below tuned number out out' a → Adds (channelLine number (tuned number)) out' a out'' r → Below tuned (number + 1) out out'' r
+pub below-more : {tuned : ℕ → Tuned} {number : ℕ} {out out' : List ℕ} {a : Lines} {out'' : List ℕ} {r : Lines} → Below tuned number out out' a
+    → Adds (channelLine number (tuned number)) out' a out'' r → Below tuned (number + 1) out out'' r
 below-more {tuned} {number} {out} {out'} {a} {out''} {r} b w =
     let more = channelLine number (tuned number) in
     let all : channelLines tuned (number + 1) 0 ≡ channelLines tuned number 0 ++ more =
@@ -93,20 +87,24 @@ one-line number (Tuned.Analogue hidden path khz standard scrambled) = omega arit
 one-line number (Tuned.Application hidden path application) = omega arith
 
 -- the line of a channel, written and counted
-pub added : {out : List ℕ} {a : Lines} {out' : List ℕ} {size more : ℕ} {tuned t : Tuned} (number : ℕ) → t ≡ tuned → Wrote out (a .size) (flatten (channelLine number t)) out' size → size ≤ a .size + 289 → more ≡ length (channelLine number t) → Adds (channelLine number tuned) out a out' (record { count = a .count + more; size = size })
+pub added : {out : List ℕ} {a : Lines} {out' : List ℕ} {size more : ℕ} {tuned t : Tuned} (number : ℕ) → t ≡ tuned
+    → Wrote out (a .size) (flatten (channelLine number t)) out' size → size ≤ a .size + 289 → more ≡ length (channelLine number t)
+    → Adds (channelLine number tuned) out a out' (record { count = a .count + more; size = size })
 added {out} {a} {out'} {size} {more} {tuned} {t} number is w short e =
     record { wrote = rw is at w; count = ap (λ (n : ℕ). a .count + n) (rw is at e); short = short; one = one-line number tuned }
 
 -- ---- all of them
 
 abbrev AllLines : (s : State) → (store out out' : List ℕ) → (r : Lines) → Type 0
-AllLines s store out out' r = Wrote out 0 (flatten (linesOf (boxOf s store))) out' (r .size) × ((r .count ≡ length (linesOf (boxOf s store))) × Counts (r .size) out')
+AllLines s store out out' r =
+    Wrote out 0 (flatten (linesOf (boxOf s store))) out' (r .size) × ((r .count ≡ length (linesOf (boxOf s store))) × Counts (r .size) out')
 
 pub none-written : (s : State) (store out : List ℕ) → linesOf (boxOf s store) ≡ [] → AllLines s store out out (record { count = 0; size = 0 })
 unfolding flatten
 none-written s store out e = (rw e (nothing out 0 (omega arith)), (rw e, (omega arith, refl)))
 
-pub all-written : (s : State) (store out out' : List ℕ) (number : ℕ) (r : Lines) → number ≡ 4096 → Below (tune s store) number out out' r → AllLines s store out out' r
+pub all-written : (s : State) (store out out' : List ℕ) (number : ℕ) (r : Lines) → number ≡ 4096 → Below (tune s store) number out out' r
+    → AllLines s store out out' r
 unfolding linesOf boxOf
 all-written s store out out' number r e b = (rw e at (b .wrote), (rw e at (b .count), counts (b .wrote)))
 

@@ -1,12 +1,8 @@
 -- Lines written behind other lines, and counted.
 use Prim.Native.Nat.{ℕ, _+_, _*_, _≤_}
-use mathlib.Core.Path.{_≡_}
-use mathlib.Core.List.{List, flatten}
+use mathlib.Core.{Path._≡_, List.List, List.flatten}
 use lib.ListN.{length}
-use Rattle.rules.specs.Holding.{Box}
-use Rattle.rules.specs.Lineup.{heading, linesOf, channelLines}
-use Rattle.rules.specs.declared.State.{State}
-use Rattle.rules.specs.declared.Tuned.{Tuned}
+use Rattle.rules.specs.{Holding.Box, Lineup.heading, Lineup.linesOf, Lineup.channelLines, declared.State.State, declared.Tuned.Tuned}
 use Rattle.stream.specs.declared.Tally.{Tally}
 use Rattle.text.specs.Written.{Wrote}
 use Rattle.printout.specs.declared.Lines.{Lines}

@@ -16,4 +16,5 @@ module _ {M : Type 1} (𝓤 : URA M) (H : Heap 𝓤) (A : Atoms 𝓤) (mem : Mem
   start-determined = determined-by 𝓤 {T = start.ended} (start.clauses 𝓤 H A mem run) _ _ (λ κs a g r e. id⊢ 𝓤 _)
 
   pub offer-determined : Determined 𝓤 {T = offer.ended} (offer.clauses 𝓤 H A mem run) (λ κs r e. withLent r (now (e .1 .0)))
-  offer-determined = determined-by 𝓤 {T = offer.ended} (offer.clauses 𝓤 H A mem run) _ _ (λ κs a g r e. answer-and-lent 𝓤 (id⊢ 𝓤 _) (first-says 𝓤 (id⊢ 𝓤 _) (id⊢ 𝓤 _)))
+  offer-determined =
+      determined-by 𝓤 {T = offer.ended} (offer.clauses 𝓤 H A mem run) _ _ (λ κs a g r e. answer-and-lent 𝓤 (id⊢ 𝓤 _) (first-says 𝓤 (id⊢ 𝓤 _) (id⊢ 𝓤 _)))

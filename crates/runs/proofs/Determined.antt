@@ -12,4 +12,5 @@ use Rattle.runs.proofs.trial_lineup
 
 module _ {M : Type 1} (𝓤 : URA M) (H : Heap 𝓤) (A : Atoms 𝓤) (mem : Memory → SProp 𝓤) (run : Routine → Fun 𝓤) where
   pub trial_lineup-determined : Determined 𝓤 {T = trial_lineup.ended} (trial_lineup.clauses 𝓤 H A mem run) (λ κs r e. withLent r (now (e .1 .0)))
-  trial_lineup-determined = determined-by 𝓤 {T = trial_lineup.ended} (trial_lineup.clauses 𝓤 H A mem run) _ _ (λ κs a g r e. answer-and-lent 𝓤 (id⊢ 𝓤 _) (id⊢ 𝓤 _))
+  trial_lineup-determined =
+      determined-by 𝓤 {T = trial_lineup.ended} (trial_lineup.clauses 𝓤 H A mem run) _ _ (λ κs a g r e. answer-and-lent 𝓤 (id⊢ 𝓤 _) (id⊢ 𝓤 _))

@@ -5,9 +5,7 @@ use mathlib.Core.Path.{_≡_, sym, ap, _∙_}
 use mathlib.Core.List.{List, [], _∷_, _++_, flatten, append-nil}
 use lib.ListN.{length, take, drop, length-append}
 use borrow.Author.Tests.{le-leb, lt-leb}
-use Rattle.rules.specs.Bytes.{byte, from}
-use Rattle.rules.specs.Holding.{put}
-use Rattle.rules.specs.Lineup.{lineup}
+use Rattle.rules.specs.{Bytes.byte, Bytes.from, Holding.put, Lineup.lineup}
 use Rattle.rules.proofs.Store.{put-length}
 use Rattle.stream.proofs.Laws.{rest-is}
 use Rattle.text.specs.Written.{Wrote}
@@ -33,7 +31,8 @@ module _ (input out a b : List ℕ) (n m : ℕ) (is : a ++ b ≡ lineup input) (
   unfolding lineupSize lineupIn
   no-room few = let less = lt-leb (length (lineup input)) (length out) (omega (arith, size)) in (simp less, simp less)
 
-  pub both-put : (out' out'' : List ℕ) → n + m ≤ length out → out' ≡ put out 0 a → out'' ≡ put out' n b → (n + m ≡ lineupSize input (length out)) × (out'' ≡ lineupIn input out)
+  pub both-put : (out' out'' : List ℕ) → n + m ≤ length out → out' ≡ put out 0 a → out'' ≡ put out' n b
+      → (n + m ≡ lineupSize input (length out)) × (out'' ≡ lineupIn input out)
   unfolding lineupSize lineupIn
   both-put out' out'' fits e f =
       let w : Wrote out 0 a out' n = record { room = omega (arith, en); behind = omega (arith, en); holds = e } in

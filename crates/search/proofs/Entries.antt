@@ -1,33 +1,23 @@
 -- The one fact that the searches for channels, carriers, modes and ranges share, and the listings too: going on section by section and record by
 -- record, and leaving at the first match, finds the entry of the first match of all. Outside and Inside are what holds at the two loops.
 use Prim.Native.Nat.{ℕ, suc, _+_, _-_, _*_, _^_, _≤_, _<_}
-use native.Mathlib.Omega.{arith}
-use native.Mathlib.Numerals.{add-one}
-use native.Mathlib.Nat.{sub-zero}
+use native.Mathlib.{Omega.arith, Numerals.add-one, Nat.sub-zero}
 use mathlib.Core.Path.{_≡_, refl, sym, ap, ap₂, subst, _∙_}
 use mathlib.Core.Bool.{Bool, true, false, cond}
-use mathlib.Core.List.{List, _++_}
-use mathlib.Core.Option.{Option, some}
+use mathlib.Core.{List.List, List._++_, Option.Option, Option.some}
 use lib.ListN.{length, take}
-use Rattle.rules.specs.Bytes.{refused, got, from}
-use Rattle.rules.specs.Descriptors.{counted}
+use Rattle.rules.specs.{Bytes.refused, Bytes.got, Bytes.from, Descriptors.counted, Section.withoutCrc, Holding.sectionAt, Holding.liveAt}
+use Rattle.rules.specs.{Search.first, Search.sections, declared.Table.Table, declared.State.State}
 use Rattle.rules.specs.Layout.{extent, Layout, Numbered, numbered, entry, after, records}
 use Rattle.rules.specs.Tables.{cds, mms, vcm, dcm}
-use Rattle.rules.specs.Section.{withoutCrc}
-use Rattle.rules.specs.Holding.{sectionAt, liveAt}
-use Rattle.rules.specs.Search.{first, sections}
 use Rattle.rules.specs.Tuning.{covers, isCarrier, isMode, isChannel, isRange, liveCount}
-use Rattle.rules.specs.declared.Table.{Table}
 use Rattle.rules.specs.declared.Table.the-variants.{Cds, Mms, Vcm, Dcm}
-use Rattle.rules.specs.declared.State.{State}
 use Rattle.rules.proofs.Search.{sections-more, sections-none, More, more}
 use Rattle.rules.proofs.Places.{from-from, from-length}
-use Rattle.fields.specs.Outline.{layoutOf, outlineOf}
-use Rattle.fields.specs.declared.Outline.{Outline}
+use Rattle.fields.specs.{Outline.layoutOf, Outline.outlineOf, declared.Outline.Outline}
 use Rattle.fields.proofs.Outlines.{laid}
 use Rattle.search.specs.Entries.{Live, RecordOf, testOf, spanOf, outlineIn, Standing, ofGot, standing, standingIn, entryNumber, entryOf}
-use Rattle.search.proofs.Marks.{covers-one}
-use Rattle.search.proofs.Sections.{section-short, low-live, live-walk}
+use Rattle.search.proofs.{Marks.covers-one, Sections.section-short, Sections.low-live, Sections.live-walk}
 
 -- ---- by the table: the numbers that a record goes by
 
@@ -54,12 +44,14 @@ number-of true y o = refl
 number-of false y o = refl
 
 -- one record, and those behind it
-standing-step : {R : Type 0} (l : Layout R) (test : Numbered R → Bool) (m index end : ℕ) (bs behind : List ℕ) (tail : List (Standing R)) (place : ℕ) → entry l index bs ≡ got (numbered l index bs) behind → end - length bs ≡ place
+standing-step : {R : Type 0} (l : Layout R) (test : Numbered R → Bool) (m index end : ℕ) (bs behind : List ℕ) (tail : List (Standing R)) (place : ℕ)
+    → entry l index bs ≡ got (numbered l index bs) behind → end - length bs ≡ place
     → entryNumber (first (λ y. test (y .row)) (standing l (suc m) index end bs ++ tail))
     ≡ cond (test (numbered l index bs)) (1 + place + index * 2 ^ 32)
     (entryNumber (first (λ y. test (y .row)) (standing l m (index + l .takes (l .block .look (take (extent (l .block) bs) bs))) end behind ++ tail)))
 unfolding first standing ofGot after numbered entryNumber
-standing-step l test m index end bs behind tail place e p = rw (e, p) (number-of (test (numbered l index bs)) (record { row = numbered l index bs; at = place }) _)
+standing-step l test m index end bs behind tail place e p =
+    rw (e, p) (number-of (test (numbered l index bs)) (record { row = numbered l index bs; at = place }) _)
 
 module _ (s : State) (store : List ℕ) (t : Table) (x : ℕ) where
   abbrev goes : Standing (RecordOf t) → Bool
@@ -90,13 +82,15 @@ module _ (s : State) (store : List ℕ) (t : Table) (x : ℕ) where
   unfolding first entryNumber
   none-left {i} o h = rw (sections-none (standingIn s store t) (liveCount s t) i h) at (o .is)
 
-  standing-here : (i : ℕ) (b : List ℕ) (o : Outline) (start : ℕ) → b ≡ withoutCrc (sectionAt store (liveAt s t i)) → o ≡ outlineIn (outlineOf t b) → start ≡ liveAt s t i
+  standing-here : (i : ℕ) (b : List ℕ) (o : Outline) (start : ℕ) → b ≡ withoutCrc (sectionAt store (liveAt s t i)) → o ≡ outlineIn (outlineOf t b)
+      → start ≡ liveAt s t i
       → standing (layoutOf t (o .included)) (o .count) (o .first) (start + length b) (from b (o .at)) ≡ standingIn s store t i
   unfolding standingIn
   standing-here i b o start p q e = rw (q, p, e)
 
   -- into section i, whose records stand at its outline
-  pub go-in : {i later : ℕ} → Live s store t → Outside i later → i < liveCount s t → (b : List ℕ) (o : Outline) (start : ℕ) → b ≡ withoutCrc (sectionAt store (liveAt s t i)) → o ≡ outlineIn (outlineOf t b) → start ≡ liveAt s t i
+  pub go-in : {i later : ℕ} → Live s store t → Outside i later → i < liveCount s t → (b : List ℕ) (o : Outline) (start : ℕ)
+      → b ≡ withoutCrc (sectionAt store (liveAt s t i)) → o ≡ outlineIn (outlineOf t b) → start ≡ liveAt s t i
       → Inside (o .included) start i (o .count) (o .first) b (o .at) later
   go-in {i} live out h b o start p q e =
       let k = live-walk s store t live i h b p o q in
@@ -105,7 +99,9 @@ module _ (s : State) (store : List ℕ) (t : Table) (x : ℕ) where
         rs = _;
         rest = k .0;
         reads = k .1;
-        is = ap (λ (l : List (Standing (RecordOf t))). entryNumber (first goes (l ++ onFrom (i + 1)))) (standing-here i b o start p q e) ∙ rw (← sections-more (standingIn s store t) (liveCount s t) i h) (out .is);
+        is =
+            ap (λ (l : List (Standing (RecordOf t))). entryNumber (first goes (l ++ onFrom (i + 1)))) (standing-here i b o start p q e)
+            ∙ rw (← sections-more (standingIn s store t) (liveCount s t) i h) (out .is);
       }
 
   module _ {included start i left index : ℕ} {b : List ℕ} {at later : ℕ} (w : Inside included start i left index b at later) where
@@ -115,7 +111,9 @@ module _ (s : State) (store : List ℕ) (t : Table) (x : ℕ) where
     go-out h = let e : left ≡ 0 = omega arith in record { is = rw e at (w .is) }
 
     one : (m : ℕ) → left ≡ m + 1 → More (layoutOf t included) m index (from b at) (w .rs) (w .rest)
-    one m e = more (layoutOf t included) m index (from b at) (w .rs) (w .rest) (ap (λ (k : ℕ). records (layoutOf t included) k index (from b at)) (sym (e ∙ add-one m)) ∙ w .reads)
+    one m e =
+        more (layoutOf t included) m index (from b at) (w .rs) (w .rest)
+        (ap (λ (k : ℕ). records (layoutOf t included) k index (from b at)) (sym (e ∙ add-one m)) ∙ w .reads)
 
     there : 0 < left → More (layoutOf t included) (left - 1) index (from b at) (w .rs) (w .rest)
     there h = one (left - 1) (omega arith)
@@ -135,7 +133,8 @@ module _ (s : State) (store : List ℕ) (t : Table) (x : ℕ) where
     -- so passing over it is never refused
     pub never : {k : ℕ} → 0 < left → counted (layoutOf t included .described) (from b (at + extent (layoutOf t included .block) (from b at))) ≡ refused k → ⊥
     never h e =
-        let c : counted (layoutOf t included .described) (from b (at + extent (layoutOf t included .block) (from b at))) ≡ got tt (there h .behind) = rw (← from-from b at (extent (layoutOf t included .block) (from b at))) (there h .whole .behind) in
+        let c : counted (layoutOf t included .described) (from b (at + extent (layoutOf t included .block) (from b at))) ≡ got tt (there h .behind) =
+        rw (← from-from b at (extent (layoutOf t included .block) (from b at))) (there h .whole .behind) in
         let z : _≡_ {A = ℕ} 0 1 = cc in
         omega arith
 
@@ -149,23 +148,29 @@ module _ (s : State) (store : List ℕ) (t : Table) (x : ℕ) where
         let l = layoutOf t included in
         let o = one m f in
         let here = at-behind c (o .whole .behind) in
-        let counts : next ≡ index + l .takes (l .block .look (take (extent (l .block) (from b at)) (from b at))) = g ∙ ap (λ (n : ℕ). index + n) (k ∙ takes-span t included index (from b at)) in
+        let counts : next ≡ index + l .takes (l .block .look (take (extent (l .block) (from b at)) (from b at))) =
+        g ∙ ap (λ (n : ℕ). index + n) (k ∙ takes-span t included index (from b at)) in
         let stands : start + length b - length (from b at) ≡ start + at = omega (arith, from-length b at, inside (omega arith)) in
-        let is : entryNumber (first goes (standing l (suc m) index (start + length b) (from b at) ++ onFrom (i + 1))) ≡ later = rw (← (f ∙ add-one m)) (w .is) in (
+        let is : entryNumber (first goes (standing l (suc m) index (start + length b) (from b at) ++ onFrom (i + 1)))
+        ≡ later = rw (← (f ∙ add-one m)) (w .is) in (
           _,
           record { low = w .low; rs = o .others; rest = w .rest; reads = rw (counts, ← here) (o .more); is = refl },
           sym is ∙ standing-step l (testOf t x) m index (start + length b) (from b at) (o .behind) (onFrom (i + 1)) (start + at) (o .one) stands
-              ∙ ap₂ (λ (n : ℕ) (rest : List ℕ). cond (testOf t x (numbered l index (from b at))) (1 + (start + at) + index * 2 ^ 32) (entryNumber (first goes (standing l m n (start + length b) rest ++ onFrom (i + 1))))) (sym counts) here
-              ∙ ap (λ (c : Bool). cond c (1 + (start + at) + index * 2 ^ 32) (entryNumber (first goes (standing l m next (start + length b) (from b place) ++ onFrom (i + 1))))) (test-span t included index x (from b at)),
+              ∙ ap₂ (λ (n : ℕ) (rest : List ℕ). cond (testOf t x (numbered l index (from b at))) (1 + (start + at) + index * 2 ^ 32)
+              (entryNumber (first goes (standing l m n (start + length b) rest ++ onFrom (i + 1))))) (sym counts) here
+              ∙ ap (λ (c : Bool). cond c (1 + (start + at) + index * 2 ^ 32)
+              (entryNumber (first goes (standing l m next (start + length b) (from b place) ++ onFrom (i + 1))))) (test-span t included index x (from b at)),
         )
       where
-        at-behind : {rest : List ℕ} → counted (layoutOf t included .described) (from b (at + extent (layoutOf t included .block) (from b at))) ≡ got tt (from b place)
+        at-behind : {rest : List ℕ}
+            → counted (layoutOf t included .described) (from b (at + extent (layoutOf t included .block) (from b at))) ≡ got tt (from b place)
             → counted (layoutOf t included .described) (from (from b at) (extent (layoutOf t included .block) (from b at))) ≡ got tt rest → rest ≡ from b place
         at-behind c d = let e = from-from b at (extent (layoutOf t included .block) (from b at)) in cc
 
     -- if it matches its entry is the one
     pub match : (place : ℕ) → 0 < left → covers (spanOf t index (from b at) .first) (spanOf t index (from b at) .count) x ≡ true
-        → counted (layoutOf t included .described) (from b (at + extent (layoutOf t included .block) (from b at))) ≡ got tt (from b place) → 1 + (start + at) + index * 2 ^ 32 ≡ later
+        → counted (layoutOf t included .described) (from b (at + extent (layoutOf t included .block) (from b at))) ≡ got tt (from b place)
+        → 1 + (start + at) + index * 2 ^ 32 ≡ later
     match place h c p = let o = onward {m = left - 1} {place = place} (omega arith) refl refl p in sym (rw c at (o .2))
 
     -- and if it does not it is that of those behind it

@@ -5,8 +5,7 @@ use mathlib.Core.Path.{_≡_, refl, sym, ap, _∙_}
 use mathlib.Core.Bool.{Bool, true, false, cond, _&&_, _||_}
 use mathlib.Core.List.{List}
 use lib.ListN.{length, getD, set, length-set}
-use lib.Seq.{getD-set-same, getD-set-other}
-use lib.Dec.{eqb, ltb}
+use lib.{Seq.getD-set-same, Seq.getD-set-other, Dec.eqb, Dec.ltb}
 use borrow.Author.Tests.{le-leb, lt-leb, lt-ltb, le-ltb, ltb-true, ltb-false, eq-eqb, ne-eqb, eqb-true, eqb-false}
 use Rattle.rules.specs.Tuning.{covers}
 use Rattle.search.specs.Listing.{Marked}
@@ -91,7 +90,9 @@ pub more-marked : (from i entry : ℕ) (l m k : List ℕ) → Marked from i entr
 more-marked from i entry l m k a b =
     record {
       long = b .long ∙ a .long;
-      is = λ x h. rw (covers-more from i x) (twice (covers from i x) (covers (from + i) 1 x) (getD l x 0) entry (getD m x 0) (getD k x 0) (a .is x h) (b .is x (rw (a .long) h)));
+      is =
+          λ x h. rw (covers-more from i x) (twice (covers from i x) (covers (from + i) 1 x) (getD l x 0) entry (getD m x 0) (getD k x 0) (a .is x h)
+          (b .is x (rw (a .long) h)));
     }
 
 -- ---- one number

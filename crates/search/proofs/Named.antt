@@ -8,17 +8,10 @@ use mathlib.Core.Option.{none, some}
 use lib.ListN.{length, take, drop, length-take}
 use lib.Seq.{drop-drop}
 use Rattle.rules.specs.Gathering as Gathering
-use Rattle.rules.specs.Bytes.{got, from}
+use Rattle.rules.specs.{Bytes.got, Bytes.from, Section.lengthOf, Section.withoutCrc, Holding.sectionAt, Holding.liveAt, Search.first, Search.sections}
+use Rattle.rules.specs.{Tuning.liveCount, Tuning.liveSection, Tuning.liveRecords, declared.Table.Table, declared.State.State}
 use Rattle.rules.specs.Layout.{Numbered, numbered, extent, after, records}
-use Rattle.rules.specs.Section.{lengthOf, withoutCrc}
-use Rattle.rules.specs.Holding.{sectionAt, liveAt}
-use Rattle.rules.specs.Search.{first, sections}
-use Rattle.rules.specs.Tuning.{liveCount, liveSection, liveRecords}
-use Rattle.rules.specs.declared.Table.{Table}
-use Rattle.rules.specs.declared.State.{State}
-use Rattle.rules.proofs.Asking.{part-front}
-use Rattle.rules.proofs.Places.{from-length, entry-place}
-use Rattle.rules.proofs.Search.{more}
+use Rattle.rules.proofs.{Asking.part-front, Places.from-length, Places.entry-place, Search.more}
 use Rattle.fields.specs.Outline.{layoutOf}
 use Rattle.fields.proofs.Outlines.{laid}
 use Rattle.search.specs.Entries.{Live, RecordOf, recordsOf, testOf, Standing, ofGot, standing, standingIn, entryNumber, entryOf, recordNamed}
@@ -83,12 +76,15 @@ module _ (t : Table) (store : List ℕ) where
   Alike (y ∷ ys) [] = ⊥
   Alike (y ∷ ys) (r ∷ rs) = Names (y .at) (y .row .index) r × (y .row ≡ r) × Alike ys rs
 
-  alike-append : (ys : List (Standing (RecordOf t))) (rs : List (Numbered (RecordOf t))) (zs : List (Standing (RecordOf t))) (qs : List (Numbered (RecordOf t))) → Alike ys rs → Alike zs qs → Alike (ys ++ zs) (rs ++ qs)
+  alike-append : (ys : List (Standing (RecordOf t))) (rs : List (Numbered (RecordOf t))) (zs : List (Standing (RecordOf t)))
+      (qs : List (Numbered (RecordOf t)))
+      → Alike ys rs → Alike zs qs → Alike (ys ++ zs) (rs ++ qs)
   alike-append [] [] zs qs a b = b
   alike-append (y ∷ ys) (r ∷ rs) zs qs a b = (a .0, a .1, alike-append ys rs zs qs (a .2) b)
 
   -- the entry of the first match names the first match
-  alike-first : (x : ℕ) (ys : List (Standing (RecordOf t))) (rs : List (Numbered (RecordOf t))) → Alike ys rs → recordNamed t store (entryNumber (first (λ y. testOf t x (y .row)) ys)) ≡ first (testOf t x) rs
+  alike-first : (x : ℕ) (ys : List (Standing (RecordOf t))) (rs : List (Numbered (RecordOf t))) → Alike ys rs
+      → recordNamed t store (entryNumber (first (λ y. testOf t x (y .row)) ys)) ≡ first (testOf t x) rs
   unfolding first entryNumber
   alike-first x [] [] a = no-entry t store 0 refl
   alike-first x (y ∷ ys) (r ∷ rs) (n, e, a) =
@@ -100,7 +96,8 @@ module _ (t : Table) (store : List ℕ) where
       go false q = q
 
   -- the records of a live section
-  alike-standing : (included start : ℕ) (b : List ℕ) → b ≡ withoutCrc (sectionAt store start) → start < 2 ^ 30 → (n index at : ℕ) (rs : List (Numbered (RecordOf t))) (rest : List ℕ)
+  alike-standing : (included start : ℕ) (b : List ℕ) → b ≡ withoutCrc (sectionAt store start) → start < 2 ^ 30
+      → (n index at : ℕ) (rs : List (Numbered (RecordOf t))) (rest : List ℕ)
       → records (layoutOf t included) n index (from b at) ≡ got rs rest → Alike (standing (layoutOf t included) n index (start + length b) (from b at)) rs
   unfolding records standing ofGot after numbered
   alike-standing included start b e low zero index at rs rest q = let z : rs ≡ [] = cc in subst (λ (l : List (Numbered (RecordOf t))). Alike [] l) (sym z) tt
@@ -129,7 +126,8 @@ module _ (s : State) (store : List ℕ) (t : Table) (live : Live s store t) wher
   unfolding sections
   alike-sections zero i e = tt
   alike-sections (suc m) i e =
-      alike-append t store (standingIn s store t i) (liveSection (recordsOf t) s store t i) (sections (standingIn s store t) m (i + 1)) (sections (liveSection (recordsOf t) s store t) m (i + 1))
+      alike-append t store (standingIn s store t i) (liveSection (recordsOf t) s store t i) (sections (standingIn s store t) m (i + 1))
+      (sections (liveSection (recordsOf t) s store t) m (i + 1))
       (alike-section i (omega (arith, e))) (alike-sections m (i + 1) (omega (arith, e)))
 
   pub entry-names : (x : ℕ) → recordNamed t store (entryOf s store t x) ≡ first (testOf t x) (liveRecords (recordsOf t) s store t)

@@ -5,25 +5,15 @@ use native.Mathlib.Omega.{arith}
 use mathlib.Core.Path.{_≡_, refl, sym, ap, ap₂, _∙_}
 use mathlib.Core.List.{List}
 use lib.ListN.{length, length-take}
-use Rattle.rules.specs.Bytes.{got, unless, from}
-use Rattle.rules.specs.Layout.{taken, Numbered, records}
-use Rattle.rules.specs.Form.{Front, form}
+use Rattle.rules.specs.{Bytes.got, Bytes.unless, Bytes.from, Layout.taken, Layout.Numbered, Layout.records, Form.Front, Form.form}
+use Rattle.rules.specs.{declared.Table.Table, declared.Holding.Holding, declared.State.State}
 use Rattle.rules.specs.Section.{headerOf, Structure, inFront, structure, withoutCrc}
 use Rattle.rules.specs.Gathering as Gathering
 use Rattle.rules.specs.Holding.{limitOf, indexOf, placeOf, sectionAt, holdingOf, liveAt, readFor}
 use Rattle.rules.specs.Tuning.{liveCount, liveReading, recordsIn, liveSection}
-use Rattle.rules.specs.declared.Table.{Table}
-use Rattle.rules.specs.declared.Holding.{Holding}
-use Rattle.rules.specs.declared.State.{State}
-use Rattle.rules.proofs.Taken.{then-got, giving-got, taken-got}
-use Rattle.rules.proofs.Right.{formal, header-got, reads-right}
-use Rattle.rules.proofs.LivePlaces.{table-says}
-use Rattle.rules.proofs.States.{index-lt, limit-low, limit-some}
-use Rattle.rules.proofs.Formed.{formed}
-use Rattle.rules.proofs.Placed.{last-low}
-use Rattle.fields.specs.Outline.{layoutOf, fronted, outlineOf}
-use Rattle.fields.specs.declared.Outline.{Outline}
-use Rattle.fields.specs.declared.Outlined.{Outlined}
+use Rattle.rules.proofs.{Taken.then-got, Taken.giving-got, Taken.taken-got, Right.formal, Right.header-got, Right.reads-right, LivePlaces.table-says}
+use Rattle.rules.proofs.{States.index-lt, States.limit-low, States.limit-some, Formed.formed, Placed.last-low}
+use Rattle.fields.specs.{Outline.layoutOf, Outline.fronted, Outline.outlineOf, declared.Outline.Outline, declared.Outlined.Outlined}
 use Rattle.fields.specs.declared.Outlined.the-variants.{Refused, Records}
 use Rattle.fields.proofs.Outlines.{laid, no-area, an-area}
 use Rattle.state.proofs.Laws.{some-places}
@@ -34,7 +24,8 @@ module _ (t : Table) (b : List ℕ) where
   Walks o rs rest = records (layoutOf t (o .included)) (o .count) (o .first) (from b (o .at)) ≡ got rs rest
 
   -- the records of a structure stand at its outline
-  at-outline : (front : Front) (behind : List ℕ) (x : Structure) (tail : List ℕ) → taken (headerOf (form t)) (form t .limits) b ≡ got front behind → structure (form t) front behind ≡ got x tail
+  at-outline : (front : Front) (behind : List ℕ) (x : Structure) (tail : List ℕ) → taken (headerOf (form t)) (form t .limits) b ≡ got front behind
+      → structure (form t) front behind ≡ got x tail
       → (r : Outlined) → r ≡ outlineOf t b → Walks (outlineIn r) (recordsOf t x) tail
   unfolding structure fronted unless outlineIn
   at-outline front behind x tail e q r o =
@@ -57,7 +48,8 @@ module _ (t : Table) (b : List ℕ) where
           sym (area .walked) ∙ ap₂ (λ (z : Front) (l : List ℕ). records (form t .layout z) (z .count) (z .first) l) (sym front) (sym at) ∙ rows
 
 -- so do those of a section that reads right, and of a live one
-pub live-walk : (s : State) (store : List ℕ) (t : Table) → Live s store t → (i : ℕ) → i < liveCount s t → (b : List ℕ) → b ≡ withoutCrc (sectionAt store (liveAt s t i)) → (o : Outline) → o ≡ outlineIn (outlineOf t b)
+pub live-walk : (s : State) (store : List ℕ) (t : Table) → Live s store t → (i : ℕ) → i < liveCount s t → (b : List ℕ)
+    → b ≡ withoutCrc (sectionAt store (liveAt s t i)) → (o : Outline) → o ≡ outlineIn (outlineOf t b)
     → (rest : List ℕ) × Walks t b o (liveSection (recordsOf t) s store t i) rest
 unfolding liveSection liveReading readFor recordsIn
 live-walk s store t live i h b p o q =

@@ -1,25 +1,16 @@
 -- The first record of a live table that goes by a number, and its entry: a number that says where in the store the record stands, and with
 -- which index.
 use Prim.Native.Nat.{ℕ, zero, suc, _+_, _-_, _*_, _/_, _%_, _^_}
-use mathlib.Core.Path.{_≡_}
-use mathlib.Core.Bool.{Bool, true}
-use mathlib.Core.List.{List, [], _∷_}
-use mathlib.Core.Option.{Option, none, some}
+use mathlib.Core.{Path._≡_, Bool.Bool, Bool.true, List.List, List.[], List._∷_, Option.Option, Option.none, Option.some}
 use lib.ListN.{length, take}
 use Rattle.rules.specs.Bytes.{Got, refused, got, from}
 use Rattle.rules.specs.Layout.{extent, Layout, Numbered, entry, after}
 use Rattle.rules.specs.Tables.{carriersOf, cds, channelOf, vcm, rangeOf, dcm}
-use Rattle.rules.specs.Form.{form}
-use Rattle.rules.specs.Section.{Structure, withoutCrc}
+use Rattle.rules.specs.{Form.form, Section.Structure, Section.withoutCrc, Search.first, Search.sections, declared.Table.Table, declared.State.State}
 use Rattle.rules.specs.Holding.{limitOf, sectionAt, holdingOf, liveAt, holdingFormed}
-use Rattle.rules.specs.Search.{first, sections}
 use Rattle.rules.specs.Tuning.{liveCount, tableReads, isCarrier, isMode, isChannel, isRange}
-use Rattle.rules.specs.declared.Table.{Table}
 use Rattle.rules.specs.declared.Table.the-variants.{Cds, Mms, Vcm, Dcm}
-use Rattle.rules.specs.declared.State.{State}
-use Rattle.fields.specs.Outline.{layoutOf, outlineOf}
-use Rattle.fields.specs.declared.Outline.{Outline}
-use Rattle.fields.specs.declared.Outlined.{Outlined}
+use Rattle.fields.specs.{Outline.layoutOf, Outline.outlineOf, declared.Outline.Outline, declared.Outlined.Outlined}
 use Rattle.fields.specs.declared.Outlined.the-variants.{Refused, Records}
 use Rattle.search.specs.declared.Span.{Span}
 

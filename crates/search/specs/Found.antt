@@ -1,16 +1,10 @@
 -- What the code answers of the record that an entry names.
 use Prim.Native.Nat.{ℕ, _-_}
 use mathlib.Core.Option.{Option, none, some}
-use Rattle.rules.specs.Layout.{Numbered}
-use Rattle.rules.specs.Tables.{carrierKhz}
-use Rattle.rules.specs.declared.Carriers.{Carriers}
-use Rattle.rules.specs.declared.Mode.{Mode}
-use Rattle.rules.specs.declared.Channel.{Channel}
-use Rattle.search.specs.declared.CarrierFound.{CarrierFound}
+use Rattle.rules.specs.{Layout.Numbered, Tables.carrierKhz, declared.Carriers.Carriers, declared.Mode.Mode, declared.Channel.Channel}
+use Rattle.search.specs.{declared.CarrierFound.CarrierFound, declared.ModeFound.ModeFound, declared.ChannelFound.ChannelFound}
 use Rattle.search.specs.declared.CarrierFound.the-variants as carrier
-use Rattle.search.specs.declared.ModeFound.{ModeFound}
 use Rattle.search.specs.declared.ModeFound.the-variants as mode
-use Rattle.search.specs.declared.ChannelFound.{ChannelFound}
 use Rattle.search.specs.declared.ChannelFound.the-variants as channel
 
 unfoldable pub carrierFound : (index : ℕ) → Option (Numbered Carriers) → CarrierFound

@@ -1,13 +1,8 @@
 -- A listing of a live table: the entries of the numbers from 0 on, as many as there is room for.
 use Prim.Native.Nat.{ℕ, _+_, _*_, _^_, _<_}
-use mathlib.Core.Path.{_≡_}
-use mathlib.Core.Bool.{cond, _&&_}
-use mathlib.Core.List.{List}
-use lib.ListN.{length, getD}
-use lib.Dec.{eqb}
-use Rattle.rules.specs.Tuning.{covers}
-use Rattle.rules.specs.declared.Table.{Table}
-use Rattle.rules.specs.declared.State.{State}
+use mathlib.Core.{Path._≡_, Bool.cond, Bool._&&_, List.List}
+use lib.{ListN.length, ListN.getD, Dec.eqb}
+use Rattle.rules.specs.{Tuning.covers, declared.Table.Table, declared.State.State}
 use Rattle.search.specs.Entries.{spanOf, entryOf}
 
 pub record Lists (s : State) (store : List ℕ) (t : Table) (entries : List ℕ) : Type 0 where

@@ -18,7 +18,8 @@ module _ {M : Type 1} (𝓤 : URA M) (H : Heap 𝓤) (A : Atoms 𝓤) (mem : Mem
   read_section-determined = determined-by 𝓤 {T = read_section.ended} (read_section.clauses 𝓤 H A mem run) _ _ (λ κs a g r e. first-says 𝓤 (id⊢ 𝓤 _) (id⊢ 𝓤 _))
 
   pub ask_descriptor-determined : Determined 𝓤 {T = ask_descriptor.ended} (ask_descriptor.clauses 𝓤 H A mem run) (λ κs r e. r)
-  ask_descriptor-determined = determined-by 𝓤 {T = ask_descriptor.ended} (ask_descriptor.clauses 𝓤 H A mem run) _ _ (λ κs a g r e. first-says 𝓤 (id⊢ 𝓤 _) (id⊢ 𝓤 _))
+  ask_descriptor-determined =
+      determined-by 𝓤 {T = ask_descriptor.ended} (ask_descriptor.clauses 𝓤 H A mem run) _ _ (λ κs a g r e. first-says 𝓤 (id⊢ 𝓤 _) (id⊢ 𝓤 _))
 
   pub find_descriptor-determined : Determined 𝓤 {T = find_descriptor.ended} (find_descriptor.clauses 𝓤 H A mem run) (λ κs r e. now r)
   find_descriptor-determined = determined-by 𝓤 {T = find_descriptor.ended} (find_descriptor.clauses 𝓤 H A mem run) _ _ (λ κs a g r e. id⊢ 𝓤 _)

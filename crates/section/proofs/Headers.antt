@@ -1,18 +1,12 @@
 -- The header in the code's terms: which numbers a table has, where medium and subtype stand, which table they name, and its tests.
 use Prim.Native.Nat.{ℕ, _/_, _<_, _≤_}
-use mathlib.Core.Path.{_≡_, refl}
+use mathlib.Core.{Path._≡_, Path.refl, List.List, Option.none, Option.some}
 use mathlib.Core.Bool.{Bool, true, false, cond, _&&_, _||_}
-use mathlib.Core.List.{List}
-use mathlib.Core.Option.{none, some}
-use lib.ListN.{length, take}
-use lib.Dec.{leb, eqb}
+use lib.{ListN.length, ListN.take, Dec.leb, Dec.eqb}
 use borrow.Author.Tests.{le-leb, lt-leb, eq-eqb, ne-eqb}
 use Rattle.rules.specs.Bytes.{got, unless, giving, byte, from}
-use Rattle.rules.specs.Layout.{taken}
-use Rattle.rules.specs.Form.{form}
-use Rattle.rules.specs.Search.{first, any, otherwise}
+use Rattle.rules.specs.{Layout.taken, Form.form, Search.first, Search.any, Search.otherwise, declared.Table.Table}
 use Rattle.rules.specs.Section.{hasNumber, isNumber, mediumAt, named, headerOf}
-use Rattle.rules.specs.declared.Table.{Table}
 use Rattle.rules.specs.declared.Table.the-variants.{Cds, Mms, Vcm, Dcm}
 use Rattle.fields.proofs.Outlines.{laid}
 use Rattle.section.specs.Reads.{headerAs, headedBy}
@@ -53,7 +47,8 @@ named-none n m a b = rw (ne-eqb n 0xC2 a, ne-eqb n 0xC4 b) refl
 -- ---- the header whole, in the code's tests
 
 header-is : (t : Table) (b : List ℕ)
-    → headedBy t b ≡ giving (λ x. record { table = t; front = x }) (unless (leb 7 (length b)) 8 (unless (eqb (byte 1 b / 64) 0 && eqb (byte 3 b / 32) 0) 9 (got (headerOf (form t) .look (take 7 b)) (from b 7))))
+    → headedBy t b ≡ giving (λ x. record { table = t; front = x })
+    (unless (leb 7 (length b)) 8 (unless (eqb (byte 1 b / 64) 0 && eqb (byte 3 b / 32) 0) 9 (got (headerOf (form t) .look (take 7 b)) (from b 7))))
 unfolding headedBy taken unless
 header-is t b = rw (laid t .seven b, laid t .zeros b)
 

@@ -9,13 +9,11 @@ use lib.Dec.{eqb}
 use borrow.Author.Tests.{eq-eqb, ne-eqb}
 use Rattle.rules.specs.Bytes.{Got, refused, got, andThen, giving, byte, from}
 use Rattle.rules.specs.Descriptors.{Descriptor, descriptor, closing, bodies}
-use Rattle.rules.specs.Section.{revisionTag, revision, firstOf}
-use Rattle.rules.specs.declared.Revision.{Revision}
+use Rattle.rules.specs.{Section.revisionTag, Section.revision, Section.firstOf, declared.Revision.Revision}
 use Rattle.rules.specs.declared.Asked.the-variants as asked
 use Rattle.rules.proofs.Closing.{closing-end, closing-got, closing-no}
-use Rattle.fields.specs.Place.{Stands}
+use Rattle.fields.specs.{Place.Stands, declared.Skip.Skip}
 use Rattle.section.specs.Closes.{closedOf, seenOf, seenWith, filled, firstIn, Lone}
-use Rattle.fields.specs.declared.Skip.{Skip}
 use Rattle.fields.specs.declared.Skip.the-variants.{At}
 use Rattle.section.specs.declared.closing.Seen.{Seen}
 use Rattle.section.specs.declared.closing.Seen.the-variants.{Nothing, Once, Again}
@@ -76,7 +74,9 @@ module _ (b : List ℕ) (at : ℕ) (seen : Seen) where
         rw (closing-got _ _ _ (h .is)) (after-giving (λ ds. descAt b at ∷ ds) (closing (from b i)) _
         ∙ same-after (closing (from b i)) _ _ (λ ds end. rw (eq-eqb _ _ n) (go seen ds)))
       where
-        go : (x : Seen) (ds : List Descriptor) → revision (seenOf b x ++ (descAt b at .body ∷ bodies revisionTag ds)) ≡ revision (seenOf b (seenWith x (at + 2) (byte (at + 1) b)) ++ bodies revisionTag ds)
+        go : (x : Seen) (ds : List Descriptor)
+            → revision (seenOf b x ++ (descAt b at .body ∷ bodies revisionTag ds))
+            ≡ revision (seenOf b (seenWith x (at + 2) (byte (at + 1) b)) ++ bodies revisionTag ds)
         go Nothing ds = refl
         go (Once start size) ds = refl
         go Again ds = refl
@@ -115,7 +115,9 @@ module _ (b : List ℕ) (at tag : ℕ) where
   unfolding firstIn firstOf
   first-end h = rw (closing-end (from b at) (omega (arith, from-length b at)))
 
-  first-giving : (g : Got (List Descriptor)) → filled g ≡ true → firstIn tag at (giving (λ ds. descAt b at ∷ ds) g) ≡ cond (eqb (byte at b) tag) (asked.There (at + 2) (length (descAt b at .body))) (firstIn tag (at + 2 + length (descAt b at .body)) g)
+  first-giving : (g : Got (List Descriptor)) → filled g ≡ true
+      → firstIn tag at (giving (λ ds. descAt b at ∷ ds) g)
+      ≡ cond (eqb (byte at b) tag) (asked.There (at + 2) (length (descAt b at .body))) (firstIn tag (at + 2 + length (descAt b at .body)) g)
   unfolding firstIn firstOf giving filled
   first-giving (refused n) e = let z : _≡_ {A = ℕ} 0 1 = cc in absurd (omega arith)
   first-giving (got ds rest) e = refl

@@ -2,27 +2,20 @@
 use Prim.Native.Nat.{ℕ, _≤_, _<_, _%_, _-_}
 use native.Mathlib.Omega.{arith}
 use mathlib.Core.Path.{_≡_, refl, sym, ap, ap₂, subst, _∙_}
-use mathlib.Core.Bool.{Bool, true, false}
-use mathlib.Core.List.{List}
-use mathlib.Core.Option.{Option, none, some}
-use lib.ListN.{length, take}
-use lib.Dec.{leb, ltb}
+use mathlib.Core.{Bool.Bool, Bool.true, Bool.false, List.List, Option.Option, Option.none, Option.some}
+use lib.{ListN.length, ListN.take, Dec.leb, Dec.ltb}
 use borrow.Author.Tests.{eq-eqb, ne-eqb, lt-ltb, le-ltb}
 use Rattle.rules.specs.Bytes.{Got, refused, got, unless, andThen, giving, byte, from}
-use Rattle.rules.specs.Crc.{crcOf}
-use Rattle.rules.specs.Descriptors.{Descriptor, closing, bodies}
+use Rattle.rules.specs.{Crc.crcOf, Descriptors.Descriptor, Descriptors.closing, Descriptors.bodies, Form.Front, Form.form, declared.Table.Table}
+use Rattle.rules.specs.{declared.Revision.Revision, declared.SectionHead.SectionHead}
 use Rattle.rules.specs.Layout.{Block, extent, taken, Numbered, records}
-use Rattle.rules.specs.Form.{Front, form}
-use Rattle.rules.specs.Section.{isNumber, mediumAt, named, given, headerOf, Headed, headerBy, header, inFront, Structure, structure, revisionTag, revision, Content, contentOf, content, fitting, withoutCrc, whole, Reading, wrong, right, read, readSection, sizeOf, closingAt, headOf, readAs, firstOf, askedOf, ask}
-use Rattle.rules.specs.declared.Table.{Table}
-use Rattle.rules.specs.declared.Revision.{Revision}
-use Rattle.rules.specs.declared.SectionHead.{SectionHead}
+use Rattle.rules.specs.Section.{isNumber, mediumAt, named, given, headerOf, Headed, headerBy, header, inFront, Structure, structure, revisionTag}
+use Rattle.rules.specs.Section.{revision, Content, contentOf, content, fitting, withoutCrc, whole, Reading, wrong, right, read, readSection, sizeOf}
+use Rattle.rules.specs.Section.{closingAt, headOf, readAs, firstOf, askedOf, ask}
 use Rattle.rules.specs.declared.Read.the-variants as reads
 use Rattle.rules.specs.declared.Asked.the-variants as asked
 use Rattle.rules.proofs.Taken.{unless-got, given-got, giving-got, then-got, taken-got}
-use Rattle.rules.proofs.Closing.{closing-size}
-use Rattle.rules.proofs.Places.{from-length}
-use Rattle.rules.proofs.Right.{reads-right, closing-place}
+use Rattle.rules.proofs.{Closing.closing-size, Places.from-length, Right.reads-right, Right.closing-place}
 use Rattle.fields.specs.Outline.{headerSays, behindHeader, layoutOf, fronted}
 use Rattle.fields.specs.declared.Outline.{Outline}
 use Rattle.fields.proofs.Outlines.{laid, Area}
@@ -77,11 +70,14 @@ module _ (g : Got Headed) where
       go (got u rest) q = let z : _≡_ {A = ℕ} 0 1 = cc in absurd (omega arith)
 
 -- a header that is taken but for its limits is taken where they hold
-limits-last : {R : Type 0} (k : Block R) (limits : R → Bool) (bs : List ℕ) → taken k limits bs ≡ andThen (taken k (λ x. true) bs) (λ x rest. unless (limits x) 10 (got x rest))
+limits-last : {R : Type 0} (k : Block R) (limits : R → Bool) (bs : List ℕ)
+    → taken k limits bs ≡ andThen (taken k (λ x. true) bs) (λ x rest. unless (limits x) 10 (got x rest))
 unfolding taken unless andThen
 limits-last {R} k limits bs = go (leb (extent k bs) (length bs)) (k .zeros (take (extent k bs) bs)) (k .look (take (extent k bs) bs))
   where
-    go : (a z : Bool) (x : R) → unless a 8 (unless z 9 (unless (limits x) 10 (got x (from bs (extent k bs))))) ≡ andThen (unless a 8 (unless z 9 (unless true 10 (got x (from bs (extent k bs)))))) (λ x rest. unless (limits x) 10 (got x rest))
+    go : (a z : Bool) (x : R)
+        → unless a 8 (unless z 9 (unless (limits x) 10 (got x (from bs (extent k bs)))))
+        ≡ andThen (unless a 8 (unless z 9 (unless true 10 (got x (from bs (extent k bs)))))) (λ x rest. unless (limits x) 10 (got x rest))
     go false z x = refl
     go true false x = refl
     go true true x = refl
@@ -94,16 +90,19 @@ content-by : (b : List ℕ) → content b ≡ andThen (headed b) judged
 unfolding content header headerBy headed headedBy given andThen giving unless
 content-by b = go (ltb (mediumAt (byte 0 b)) (length b)) (named (byte 0 b) (byte (mediumAt (byte 0 b)) b))
   where
-    limited : (h : Headed) (rest : List ℕ) (l : Bool) → andThen (giving (λ x. record { table = h .table; front = x }) (unless l 10 (got (h .front) rest))) contentOf ≡ unless l 10 (contentOf h rest)
+    limited : (h : Headed) (rest : List ℕ) (l : Bool)
+        → andThen (giving (λ x. record { table = h .table; front = x }) (unless l 10 (got (h .front) rest))) contentOf ≡ unless l 10 (contentOf h rest)
     limited h rest true = refl
     limited h rest false = refl
 
-    headers : (t : Table) (g : Got Front) → andThen (giving (λ x. record { table = t; front = x }) (andThen g (λ x rest. unless (form t .limits x) 10 (got x rest)))) contentOf
+    headers : (t : Table) (g : Got Front)
+        → andThen (giving (λ x. record { table = t; front = x }) (andThen g (λ x rest. unless (form t .limits x) 10 (got x rest)))) contentOf
         ≡ andThen (giving (λ x. record { table = t; front = x }) g) judged
     headers t (refused n) = refl
     headers t (got x rest) = limited (record { table = t; front = x }) rest (form t .limits x)
 
-    go : (m : Bool) (o : Option Table) → andThen (unless m 8 (given o 7 (λ t. headerBy t b))) contentOf ≡ andThen (unless m 8 (given o 7 (λ t. headedBy t b))) judged
+    go : (m : Bool) (o : Option Table)
+        → andThen (unless m 8 (given o 7 (λ t. headerBy t b))) contentOf ≡ andThen (unless m 8 (given o 7 (λ t. headedBy t b))) judged
     go false o = refl
     go true none = refl
     go true (some t) = rw (limits-last (headerOf (form t)) (form t .limits) b) (headers t (taken (headerOf (form t)) (λ x. true) b))
@@ -153,7 +152,8 @@ module _ (t : Table) (b : List ℕ) where
   abbrev built : Front → List (Numbered (form t .Row)) → Structure
   built y rs = record { front = y; lists = form t .says rs }
 
-  behind-by : behind t b ≡ andThen (fronted t b) (λ y rest. andThen (records (form t .layout y) (y .count) (y .first) rest) (λ rs tail. ending (built y rs) tail))
+  behind-by : behind t b ≡ andThen (fronted t b)
+      (λ y rest. andThen (records (form t .layout y) (y .count) (y .first) rest) (λ rs tail. ending (built y rs) tail))
   unfolding behind contentOf structure fronted andThen giving unless
   behind-by = go (form t .limits (headerSays t b)) (inFront (form t) (headerSays t b) (behindHeader t b))
     where
@@ -166,7 +166,8 @@ module _ (t : Table) (b : List ℕ) where
       fronts (refused n) = refl
       fronts (got y rest) = rows y (records (form t .layout y) (y .count) (y .first) rest)
 
-      go : (l : Bool) (g : Got Front) → unless l 10 (andThen (andThen g (λ y rest. giving (built y) (records (form t .layout y) (y .count) (y .first) rest))) ending)
+      go : (l : Bool) (g : Got Front)
+          → unless l 10 (andThen (andThen g (λ y rest. giving (built y) (records (form t .layout y) (y .count) (y .first) rest))) ending)
           ≡ andThen (unless l 10 g) (λ y rest. andThen (records (form t .layout y) (y .count) (y .first) rest) (λ rs tail. ending (built y rs) tail))
       go true g = fronts g
       go false g = refl
@@ -206,7 +207,8 @@ module _ (t : Table) (b : List ℕ) where
           go (got ds end) p = judge ds (revision (bodies revisionTag ds)) p
 
       -- the closing list has the bytes from its place on
-      list-got : (r : Revision) → closed.Revised r ≡ closedAs (closedOf (from b at)) → (ds : List Descriptor) × (end : List ℕ) × (rest : List ℕ) × (closing (from b at) ≡ got ds end) × (revision (bodies revisionTag ds) ≡ got r rest)
+      list-got : (r : Revision) → closed.Revised r ≡ closedAs (closedOf (from b at))
+          → (ds : List Descriptor) × (end : List ℕ) × (rest : List ℕ) × (closing (from b at) ≡ got ds end) × (revision (bodies revisionTag ds) ≡ got r rest)
       unfolding closedOf
       list-got r q = let c = closed-got _ r q in let d = then-got _ _ _ _ (c .1) in (d .value, d .behind, c .0, d .one, d .more)
 

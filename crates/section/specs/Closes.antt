@@ -1,18 +1,13 @@
 -- What the code's answers about a closing list mean.
 use Prim.Native.Nat.{ℕ, _+_}
-use mathlib.Core.Path.{_≡_}
-use mathlib.Core.Bool.{Bool, true, false}
-use mathlib.Core.List.{List, [], _∷_}
+use mathlib.Core.{Path._≡_, Bool.Bool, Bool.true, Bool.false, List.List, List.[], List._∷_}
 use lib.ListN.{length, getD, take}
 use Rattle.rules.specs.Bytes.{Got, refused, got, andThen, from}
-use Rattle.rules.specs.Descriptors.{Descriptor, closing, bodies}
-use Rattle.rules.specs.Section.{revisionTag, revision, firstOf}
-use Rattle.rules.specs.declared.Revision.{Revision}
-use Rattle.rules.specs.declared.Asked.{Asked}
+use Rattle.rules.specs.{Descriptors.Descriptor, Descriptors.closing, Descriptors.bodies, Section.revisionTag, Section.revision, Section.firstOf}
+use Rattle.rules.specs.{declared.Revision.Revision, declared.Asked.Asked}
 use Rattle.rules.specs.declared.Asked.the-variants as asked
-use Rattle.section.specs.declared.closing.Closed.{Closed}
+use Rattle.section.specs.{declared.closing.Closed.Closed, declared.closing.Seen.Seen}
 use Rattle.section.specs.declared.closing.Closed.the-variants as closed
-use Rattle.section.specs.declared.closing.Seen.{Seen}
 use Rattle.section.specs.declared.closing.Seen.the-variants.{Nothing, Once, Again}
 
 unfoldable pub closedAs : Got Revision → Closed

@@ -1,21 +1,14 @@
 -- What the reader's answers mean, stage by stage.
-use mathlib.Core.Bool.{true}
-use mathlib.Core.List.{List}
-use mathlib.Core.Option.{Option, none, some}
+use mathlib.Core.{Bool.true, List.List, Option.Option, Option.none, Option.some}
 use Prim.Native.Nat.{ℕ}
-use lib.ListN.{length}
-use lib.Dec.{ltb}
+use lib.{ListN.length, Dec.ltb}
 use Rattle.rules.specs.Bytes.{Got, refused, got, unless, giving, byte}
-use Rattle.rules.specs.Layout.{taken}
-use Rattle.rules.specs.Form.{form}
+use Rattle.rules.specs.{Layout.taken, Form.form, declared.Table.Table, declared.Read.Read}
 use Rattle.rules.specs.Section.{mediumAt, named, given, headerOf, Headed, Content, contentOf, headOf}
 use Rattle.fields.specs.Outline.{headerSays, behindHeader}
-use Rattle.rules.specs.declared.Table.{Table}
-use Rattle.rules.specs.declared.Read.{Read}
 use Rattle.rules.specs.declared.Read.the-variants as read
-use Rattle.section.specs.declared.header.Named.{Named}
+use Rattle.section.specs.{declared.header.Named.Named, declared.header.Header.Header}
 use Rattle.section.specs.declared.header.Named.the-variants as names
-use Rattle.section.specs.declared.header.Header.{Header}
 use Rattle.section.specs.declared.header.Header.the-variants as header
 
 unfoldable pub namedAs : Option Table → Named

@@ -1,21 +1,17 @@
 -- Check 16 of one place, and of all places of a table.
 use Prim.Native.Nat.{ℕ, _+_, _<_}
-use native.Mathlib.Omega.{arith}
-use native.Mathlib.Numerals.{add-one}
+use native.Mathlib.{Omega.arith, Numerals.add-one}
 use mathlib.Core.Path.{_≡_, refl, sym, ap, _∙_}
-use mathlib.Core.Bool.{Bool, true, false}
-use mathlib.Core.List.{List}
+use mathlib.Core.{Bool.Bool, Bool.true, Bool.false, List.List}
 use Rattle.rules.specs.Section.{Reading, wrong, right, withoutCrc, readSection, headOf, readAs}
 use Rattle.rules.specs.Holding.{notOurs, otherMap, readFor, sectionAt, liveAt}
 use Rattle.rules.specs.Tuning.{isSection, readsAs, every, liveCount, liveReading, placeReads, tableReads}
-use Rattle.rules.specs.declared.Table.{Table}
-use Rattle.rules.specs.declared.State.{State}
-use Rattle.rules.specs.declared.SectionHead.{SectionHead}
+use Rattle.rules.specs.{declared.Table.Table, declared.State.State, declared.SectionHead.SectionHead}
 use Rattle.rules.specs.declared.Read.the-variants as Read
-use Rattle.rules.proofs.Taken.{differ}
-use Rattle.rules.proofs.LivePlaces.{every-at}
+use Rattle.rules.proofs.{Taken.differ, LivePlaces.every-at}
 
-section-of : (s : State) (t : Table) (n : ℕ) (section : List ℕ) (head : SectionHead) (r : Reading) → Read.Right head ≡ readAs section r → isSection s t n (head .table) (notOurs s (head .table) (head .map)) (head .revision) ≡ readsAs s t n r
+section-of : (s : State) (t : Table) (n : ℕ) (section : List ℕ) (head : SectionHead) (r : Reading) → Read.Right head ≡ readAs section r
+    → isSection s t n (head .table) (notOurs s (head .table) (head .map)) (head .revision) ≡ readsAs s t n r
 unfolding readAs readsAs headOf otherMap
 section-of s t n section head (wrong k) e = let z : _≡_ {A = ℕ} 0 1 = cc in absurd (omega arith)
 section-of s t n section head (right c) e = let is : head ≡ headOf (withoutCrc section) c = cc in rw is
@@ -26,7 +22,8 @@ not-a-section s t n k section (wrong m) e = refl
 not-a-section s t n k section (right c) e = let z : _≡_ {A = ℕ} 0 1 = cc in absurd (omega arith)
 
 module _ (s : State) (store : List ℕ) (t : Table) (n : ℕ) (section : List ℕ) (there : section ≡ sectionAt store (liveAt s t n)) where
-  pub place-right : (head : SectionHead) → Read.Right head ≡ readAs section (readSection section) → isSection s t n (head .table) (notOurs s (head .table) (head .map)) (head .revision) ≡ placeReads s store t n
+  pub place-right : (head : SectionHead) → Read.Right head ≡ readAs section (readSection section)
+      → isSection s t n (head .table) (notOurs s (head .table) (head .map)) (head .revision) ≡ placeReads s store t n
   unfolding placeReads liveReading readFor
   place-right head e = rw (← there) (section-of s t n section head (readSection section) e)
 

@@ -12,14 +12,10 @@ use ghost.Atoms.{Atoms}
 use prog.Memory.{Memory}
 use prog.Routine.{Routine}
 use prog.Wp.{Heap}
-use Rattle.rules.specs.Bytes.{from}
-use Rattle.rules.specs.Feeding.{Intake}
+use Rattle.rules.specs.{Bytes.from, Feeding.Intake}
 use Rattle.rules.proofs.Places.{same-place}
 use Rattle.rules.proofs.Determined.{Determined, determined-by, withLent, determined-once, both-say}
-use Rattle.stream.specs.declared.Tally.{Tally}
-use Rattle.stream.specs.declared.Fed.{Fed}
-use Rattle.stream.specs.declared.Absorbed.{Absorbed}
-use Rattle.stream.specs.Tallied.{intakeOf}
+use Rattle.stream.specs.{declared.Tally.Tally, declared.Fed.Fed, declared.Absorbed.Absorbed, Tallied.intakeOf}
 use Rattle.stream.proofs.map_of
 use Rattle.stream.proofs.begin
 use Rattle.stream.proofs.feed
@@ -42,7 +38,8 @@ module _ (t u : Tally) (s z k l : List ℕ) (e : intakeOf t s k ≡ intakeOf u z
   same-kept = ap (λ (i : Intake). i .kept) e
 
 -- bytes that are left of a piece are left from one place
-fed-once : (piece : List ℕ) (r q : Fed) (s z : List ℕ) (i : Intake) → intakeOf (r .tally) s (from piece (r .used)) ≡ i → r .used ≤ length piece → intakeOf (q .tally) z (from piece (q .used)) ≡ i → q .used ≤ length piece → withLent r s ≡ withLent q z
+fed-once : (piece : List ℕ) (r q : Fed) (s z : List ℕ) (i : Intake) → intakeOf (r .tally) s (from piece (r .used)) ≡ i → r .used ≤ length piece
+    → intakeOf (q .tally) z (from piece (q .used)) ≡ i → q .used ≤ length piece → withLent r s ≡ withLent q z
 fed-once piece r q s z i e h f k =
     let same = e ∙ sym f in
     let t : r .tally ≡ q .tally = same-tally _ _ _ _ _ _ same in
@@ -52,7 +49,8 @@ fed-once piece r q s z i e h f k =
     let v : r ≡ q = w in
     cc
 
-absorbed-once : (r q : Absorbed) (s z b c k l w : List ℕ) (n : ℕ) (i : Intake) → intakeOf (r .tally) s k ≡ i → b ≡ w → r .kept ≡ n → intakeOf (q .tally) z l ≡ i → c ≡ w → q .kept ≡ n → withLent r (withLent s b) ≡ withLent q (withLent z c)
+absorbed-once : (r q : Absorbed) (s z b c k l w : List ℕ) (n : ℕ) (i : Intake) → intakeOf (r .tally) s k ≡ i → b ≡ w → r .kept ≡ n
+    → intakeOf (q .tally) z l ≡ i → c ≡ w → q .kept ≡ n → withLent r (withLent s b) ≡ withLent q (withLent z c)
 absorbed-once r q s z b c k l w n i e f g x y v =
     let same = e ∙ sym x in
     let t : r .tally ≡ q .tally = same-tally _ _ _ _ _ _ same in

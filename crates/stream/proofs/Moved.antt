@@ -1,18 +1,14 @@
 -- Bytes moved to the front of a buffer, and what the buffer holds then.
 use Prim.Native.Nat.{ℕ, _+_, _-_, _≤_, _<_}
-use native.Mathlib.Nat.{add-comm, zero-add}
-use native.Mathlib.Numerals.{add-one}
-use native.Mathlib.Omega.{arith}
+use native.Mathlib.{Nat.add-comm, Nat.zero-add, Numerals.add-one, Omega.arith}
 use mathlib.Core.Path.{_≡_, refl, sym, ap, _∙_}
 use mathlib.Core.List.{List, [], _∷_, _++_}
 use lib.ListN.{length, take, drop, getD, set, length-set, length-drop, take-append-drop}
 use lib.Seq.{length-take-le, take-suc, take-suc-set, drop-set-lt, drop-drop, getD-drop, take-at, drop-at, take-add}
-use Rattle.rules.specs.Bytes.{from}
-use Rattle.rules.specs.Holding.{put}
+use Rattle.rules.specs.{Bytes.from, Holding.put}
 use Rattle.rules.proofs.Places.{from-length}
 use Rattle.rules.specs.Feeding.{Intake, unfinished, taking, feed}
-use Rattle.stream.specs.declared.Tally.{Tally}
-use Rattle.stream.specs.Tallied.{intakeOf}
+use Rattle.stream.specs.{declared.Tally.Tally, Tallied.intakeOf}
 
 -- ---- one byte after the other
 
@@ -80,7 +76,9 @@ joined : (t : Tally) (store kept piece : List ℕ) → feed (intakeOf t store []
 unfolding feed intakeOf taking
 joined t store kept piece = refl
 
-module _ (t r : Tally) (store store' b b' : List ℕ) (kept got used kept' : ℕ) (inside : kept + got ≤ length b) (fed : intakeOf r store' (from (take (kept + got) b) used) ≡ feed (intakeOf t store []) (take (kept + got) b)) (within : used ≤ kept + got) (n : kept' ≡ kept + got - used) (m : b' ≡ put b 0 (take (kept + got - used) (from b used))) where
+module _ (t r : Tally) (store store' b b' : List ℕ) (kept got used kept' : ℕ) (inside : kept + got ≤ length b)
+    (fed : intakeOf r store' (from (take (kept + got) b) used) ≡ feed (intakeOf t store []) (take (kept + got) b)) (within : used ≤ kept + got)
+    (n : kept' ≡ kept + got - used) (m : b' ≡ put b 0 (take (kept + got - used) (from b used))) where
   abbrev tail : List ℕ
   tail = take (kept + got - used) (from b used)
 

@@ -1,8 +1,7 @@
 -- The rules' intake, as the code holds it: the tally by value, the store that is lent with it, and the bytes kept. Counts are
 -- of 64 bits, so what counts says how much room they need.
 use Prim.Native.Nat.{ℕ, _+_, _^_, _≤_, _<_}
-use mathlib.Core.Path.{_≡_}
-use mathlib.Core.List.{List, []}
+use mathlib.Core.{Path._≡_, List.List, List.[]}
 use Rattle.rules.specs.Holding.{fresh}
 use Rattle.rules.specs.Feeding.{Intake, begin, feedAll, finish}
 use Rattle.stream.specs.declared.Tally.{Tally}

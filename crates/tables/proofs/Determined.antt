@@ -16,4 +16,6 @@ module _ {M : Type 1} (𝓤 : URA M) (H : Heap 𝓤) (A : Atoms 𝓤) (mem : Mem
   outline_of-determined = determined-by 𝓤 {T = outline_of.ended} (outline_of.clauses 𝓤 H A mem run) _ _ (λ κs a g r e. id⊢ 𝓤 _)
 
   pub past_records-determined : Determined 𝓤 {T = past_records.ended} (past_records.clauses 𝓤 H A mem run) (λ κs r e. r)
-  past_records-determined = determined-once 𝓤 {T = past_records.ended} (past_records.clauses 𝓤 H A mem run) _ _ (λ κs a g r e. id⊢ 𝓤 _) (λ κs a g r r′ e e′ s t. stands-once _ r r′ _ s t)
+  past_records-determined =
+      determined-once 𝓤 {T = past_records.ended} (past_records.clauses 𝓤 H A mem run) _ _ (λ κs a g r e. id⊢ 𝓤 _)
+      (λ κs a g r r′ e e′ s t. stands-once _ r r′ _ s t)

@@ -4,18 +4,13 @@ use native.Mathlib.Omega.{arith}
 use mathlib.Core.Path.{_≡_, refl, sym, ap, _∙_}
 use mathlib.Core.Bool.{Bool, true, false, cond, not}
 use mathlib.Core.List.{List}
-use lib.ListN.{length}
-use lib.Dec.{leb}
+use lib.{ListN.length, Dec.leb}
 use borrow.Author.Tests.{le-leb, lt-leb, leb-true, ne-eqb, not-true}
 use Rattle.rules.specs.Holding.{limitOf, listed, storeSize, holdingOf, wellFormed}
-use Rattle.rules.specs.Search.{first}
+use Rattle.rules.specs.{Search.first, declared.Table.Table, declared.State.State, declared.Tuned.Tuned}
 use Rattle.rules.specs.Tuning.{liveRecords, neededTables, tableLive, allLive, tableReads, allRead, plant, needs, lookUp, tune}
-use Rattle.rules.specs.declared.Table.{Table}
-use Rattle.rules.specs.declared.State.{State}
-use Rattle.rules.specs.declared.Tuned.{Tuned}
 use Rattle.rules.specs.declared.Tuned.the-variants as Tuned
-use Rattle.rules.proofs.Taken.{differ}
-use Rattle.rules.proofs.States.{table-formed, each-at, each-no}
+use Rattle.rules.proofs.{Taken.differ, States.table-formed, States.each-at, States.each-no}
 use Rattle.search.specs.Entries.{Live, recordsOf, testOf, entryOf, recordNamed}
 use Rattle.search.proofs.Named.{entry-names}
 use Rattle.tuner.specs.Checks.{checks}
@@ -27,7 +22,8 @@ pub one-not-live : (s : State) (t : Table) → listed neededTables t ≡ true �
 unfolding allLive tableLive
 one-not-live s t h ne = sym (each-no neededTables (tableLive s) t h (ne-eqb (holdingOf s t .live .present) 1 ne))
 
-pub one-unread : (s : State) (store : List ℕ) (t : Table) → listed neededTables t ≡ true → {b : Bool} → b ≡ tableReads s store t → not b ≡ true → false ≡ allRead s store
+pub one-unread : (s : State) (store : List ℕ) (t : Table) → listed neededTables t ≡ true → {b : Bool} → b ≡ tableReads s store t → not b ≡ true
+    → false ≡ allRead s store
 unfolding allRead
 one-unread s store t h {b} e n = sym (each-no neededTables (tableReads s store) t h (sym e ∙ not-true b n))
 
@@ -53,10 +49,12 @@ passed s store e =
 -- every table that tuning needs can be searched
 pub searchable : (s : State) (store : List ℕ) → checks s store ≡ 0 → (t : Table) → listed neededTables t ≡ true → Live s store t
 unfolding allRead
-searchable s store e t h = record { formed = table-formed s t (passed s store e .good); reads = each-at neededTables (tableReads s store) (passed s store e .reads) t h }
+searchable s store e t h =
+    record { formed = table-formed s t (passed s store e .good); reads = each-at neededTables (tableReads s store) (passed s store e .reads) t h }
 
 -- the entry of a number names what the plant has under it
-pub found-by : (s : State) (store : List ℕ) → checks s store ≡ 0 → (t : Table) → listed neededTables t ≡ true → {entry : ℕ} (x : ℕ) → entry ≡ entryOf s store t x → recordNamed t store entry ≡ first (testOf t x) (liveRecords (recordsOf t) s store t)
+pub found-by : (s : State) (store : List ℕ) → checks s store ≡ 0 → (t : Table) → listed neededTables t ≡ true → {entry : ℕ} (x : ℕ)
+    → entry ≡ entryOf s store t x → recordNamed t store entry ≡ first (testOf t x) (liveRecords (recordsOf t) s store t)
 found-by s store e t h x n = ap (recordNamed t store) n ∙ entry-names s store t (searchable s store e t h) x
 
 -- ---- the checks, one by one
@@ -119,7 +117,8 @@ module _ (t : Tuned) (n : ℕ) where
   high true true true live reads e h f = absurd (differ f)
   high true true false live reads e h f = refl
 
-  late : (roomy good low live reads : Bool) → n ≡ Check roomy good live reads → (n ≡ 0 → ⊥) → 14 ≤ n → low ≡ true → Tuned.Refused n ≡ Tune roomy good low live reads
+  late : (roomy good low live reads : Bool) → n ≡ Check roomy good live reads → (n ≡ 0 → ⊥) → 14 ≤ n → low ≡ true
+      → Tuned.Refused n ≡ Tune roomy good low live reads
   unfolding needs
   late false good low live reads e ne h f = absurd (omega arith)
   late true false low live reads e ne h f = absurd (omega arith)
@@ -131,12 +130,17 @@ module _ (t : Tuned) (n : ℕ) where
 module _ (s : State) (store : List ℕ) (number n : ℕ) (e : n ≡ checks s store) where
   pub refused-early : (n ≡ 0 → ⊥) → n < 14 → Tuned.Refused n ≡ tune s store number
   unfolding checks tune
-  refused-early ne h = early (lookUp (plant s store) number) n (leb (storeSize (limitOf s)) (length store)) (wellFormed s) (leb number 4095) (allLive s) (allRead s store) e ne h
+  refused-early ne h =
+      early (lookUp (plant s store) number) n (leb (storeSize (limitOf s)) (length store)) (wellFormed s) (leb number 4095) (allLive s) (allRead s store) e ne h
 
   pub refused-high : 14 ≤ n → 4095 < number → Tuned.Refused 14 ≡ tune s store number
   unfolding checks tune
-  refused-high h f = high (lookUp (plant s store) number) n (leb (storeSize (limitOf s)) (length store)) (wellFormed s) (leb number 4095) (allLive s) (allRead s store) e h (lt-leb number 4095 f)
+  refused-high h f =
+      high (lookUp (plant s store) number) n (leb (storeSize (limitOf s)) (length store)) (wellFormed s) (leb number 4095) (allLive s) (allRead s store) e h
+      (lt-leb number 4095 f)
 
   pub refused-late : (n ≡ 0 → ⊥) → 14 ≤ n → number ≤ 4095 → Tuned.Refused n ≡ tune s store number
   unfolding checks tune
-  refused-late ne h f = late (lookUp (plant s store) number) n (leb (storeSize (limitOf s)) (length store)) (wellFormed s) (leb number 4095) (allLive s) (allRead s store) e ne h (le-leb number 4095 f)
+  refused-late ne h f =
+      late (lookUp (plant s store) number) n (leb (storeSize (limitOf s)) (length store)) (wellFormed s) (leb number 4095) (allLive s) (allRead s store) e ne h
+      (le-leb number 4095 f)

@@ -2,19 +2,13 @@
 use Prim.Native.Nat.{ℕ, _-_}
 use native.Mathlib.Omega.{arith}
 use mathlib.Core.Path.{_≡_, refl, ap, _∙_}
-use mathlib.Core.Bool.{true, false}
-use mathlib.Core.Option.{Option, none, some}
+use mathlib.Core.{Bool.true, Bool.false, Option.Option, Option.none, Option.some}
 use borrow.Author.Tests.{lt-ltb, le-ltb}
-use Rattle.rules.specs.Layout.{Numbered}
-use Rattle.rules.specs.Tables.{carrierKhz}
-use Rattle.rules.specs.Search.{first}
-use Rattle.rules.specs.Tuning.{Plant, isCarrier, isMode, isChannel, defined, needs, found, hidden, tuneSignal, inReach, tuneKhz, tuneCarrier, tuneChannel, lookUp}
-use Rattle.rules.specs.declared.Carriers.{Carriers}
-use Rattle.rules.specs.declared.Mode.{Mode}
-use Rattle.rules.specs.declared.Channel.{Channel}
-use Rattle.rules.specs.declared.Signal.{Signal}
+use Rattle.rules.specs.{Layout.Numbered, Tables.carrierKhz, Search.first, declared.Carriers.Carriers, declared.Mode.Mode, declared.Channel.Channel}
+use Rattle.rules.specs.{declared.Signal.Signal, declared.Tuned.Tuned}
+use Rattle.rules.specs.Tuning.{Plant, isCarrier, isMode, isChannel, defined, needs, found, hidden, tuneSignal, inReach, tuneKhz, tuneCarrier}
+use Rattle.rules.specs.Tuning.{tuneChannel, lookUp}
 use Rattle.rules.specs.declared.Signal.the-variants as Signal
-use Rattle.rules.specs.declared.Tuned.{Tuned}
 use Rattle.rules.specs.declared.Tuned.the-variants as Tuned
 use Rattle.search.specs.Found.{carrierFound, modeFound, channelFound}
 use Rattle.search.specs.declared.CarrierFound.the-variants as carrierAt
@@ -33,7 +27,8 @@ unfolding carrierFound
 no-carrier index none e = refl
 no-carrier index (some x) e = let z : _≡_ {A = ℕ} 0 1 = cc in absurd (omega arith)
 
-a-carrier : (index khz : ℕ) (o : Option (Numbered Carriers)) → carrierAt.At khz ≡ carrierFound index o → Seen o (λ x. khz ≡ carrierKhz (x .what) (index - x .index))
+a-carrier : (index khz : ℕ) (o : Option (Numbered Carriers)) → carrierAt.At khz ≡ carrierFound index o
+    → Seen o (λ x. khz ≡ carrierKhz (x .what) (index - x .index))
 unfolding carrierFound
 a-carrier index khz none e = let z : _≡_ {A = ℕ} 0 1 = cc in absurd (omega arith)
 a-carrier index khz (some x) e = record { is = x; there = refl; known = cc }
@@ -74,11 +69,13 @@ module _ (p : Plant) (c : Channel) (khz program mode : ℕ) where
     unfolding tuneSignal needs found
     mode-missing e = rw (lt-ltb 0 mode (omega arith), no-mode (first (isMode mode) (p .modes)) e)
 
-    pub mode-there : (m : Mode) → modeAt.At m ≡ modeFound (first (isMode mode) (p .modes)) → Tuned.Digital (hidden c) (c .path) khz program m ≡ tuneSignal p c khz (Signal.Digital program mode)
+    pub mode-there : (m : Mode) → modeAt.At m ≡ modeFound (first (isMode mode) (p .modes))
+        → Tuned.Digital (hidden c) (c .path) khz program m ≡ tuneSignal p c khz (Signal.Digital program mode)
     unfolding tuneSignal needs
     mode-there m e =
         let x = a-mode m (first (isMode mode) (p .modes)) e in
-        rw (lt-ltb 0 mode (omega arith)) (ap (Tuned.Digital (hidden c) (c .path) khz program) (x .known) ∙ at-found (first (isMode mode) (p .modes)) 21 _ (x .is) (x .there))
+        rw (lt-ltb 0 mode (omega arith)) (ap (Tuned.Digital (hidden c) (c .path) khz program) (x .known)
+        ∙ at-found (first (isMode mode) (p .modes)) 21 _ (x .is) (x .there))
 
 module _ (p : Plant) (c : Channel) (khz : ℕ) where
   pub out-of-reach : inReach khz ≡ false → Tuned.Refused 20 ≡ tuneKhz p c khz
@@ -99,7 +96,8 @@ module _ (p : Plant) (c : Channel) where
     unfolding tuneCarrier needs found
     carrier-missing e = rw (lt-ltb 0 (c .carrier) (omega arith), no-carrier (c .carrier) (first (isCarrier (c .carrier)) (p .carriers)) e)
 
-    pub carrier-there : (khz : ℕ) → carrierAt.At khz ≡ carrierFound (c .carrier) (first (isCarrier (c .carrier)) (p .carriers)) → tuneKhz p c khz ≡ tuneCarrier p c
+    pub carrier-there : (khz : ℕ) → carrierAt.At khz ≡ carrierFound (c .carrier) (first (isCarrier (c .carrier)) (p .carriers))
+        → tuneKhz p c khz ≡ tuneCarrier p c
     unfolding tuneCarrier needs
     carrier-there khz e =
         let x = a-carrier (c .carrier) khz (first (isCarrier (c .carrier)) (p .carriers)) e in

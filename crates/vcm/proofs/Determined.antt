@@ -25,4 +25,6 @@ module _ {M : Type 1} (𝓤 : URA M) (H : Heap 𝓤) (A : Atoms 𝓤) (mem : Mem
   channel_of-determined = determined-by 𝓤 {T = channel_of.ended} (channel_of.clauses 𝓤 H A mem run) _ _ (λ κs a g r e. id⊢ 𝓤 _)
 
   pub past_channels-determined : Determined 𝓤 {T = past_channels.ended} (past_channels.clauses 𝓤 H A mem run) (λ κs r e. r)
-  past_channels-determined = determined-once 𝓤 {T = past_channels.ended} (past_channels.clauses 𝓤 H A mem run) _ _ (λ κs a g r e. id⊢ 𝓤 _) (λ κs a g r r′ e e′ s t. stands-once _ r r′ _ s t)
+  past_channels-determined =
+      determined-once 𝓤 {T = past_channels.ended} (past_channels.clauses 𝓤 H A mem run) _ _ (λ κs a g r e. id⊢ 𝓤 _)
+      (λ κs a g r r′ e e′ s t. stands-once _ r r′ _ s t)

@@ -2,8 +2,7 @@
 -- reads left.
 use Prim.Native.Nat.{_*_, _-_, _≤_}
 use native.Mathlib.Omega.{arith}
-use mathlib.Core.Path.{_≡_, refl, _∙_}
-use mathlib.Core.List.{[]}
+use mathlib.Core.{Path._≡_, Path.refl, Path._∙_, List.[]}
 use lib.ListN.{length}
 use denote.Ref.{now}
 use borrow.Author.Needs.{needs}
@@ -54,9 +53,7 @@ loop-again c =
     )
 
 pub follow-spec : {M : Type 1} → statement M
-follow-spec =
-    tie.close
-    (tie.spec Inv-loop μ-loop
+follow-spec = tie.close (tie.spec Inv-loop μ-loop
     (λ c. let a = c .before .before .args in (omega arith, refl, refl, fed-none (a .start) (now (a .store)) (now (a .buffer))))
     (λ c κs. let l = c .before .before .before .loop .inv in omega (arith, l .3 .short, l .2, c .before .before .before .before .before .before .pre .0))
     (λ c. search needs) (λ c. search needs)

@@ -15,12 +15,4 @@ returns c =
     (search needs, take-put (a .kept) (length (now (a .buffer)) - a .kept) (now (a .buffer)) (c .before .before .read-some .last .1 .0) (omega (arith, h)))
 
 pub refill-spec : {M : Type 1} → statement M
-refill-spec =
-    tie.close
-    (tie.spec
-    (λ c. search needs)
-    (λ c. search needs)
-    (λ c. search needs)
-    (λ c κs. search needs)
-    (λ c. search needs)
-    returns)
+refill-spec = tie.close (tie.spec (λ c. search needs) (λ c. search needs) (λ c. search needs) (λ c κs. search needs) (λ c. search needs) returns)

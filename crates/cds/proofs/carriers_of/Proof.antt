@@ -4,25 +4,8 @@ use Rattle.rules.specs.Tables.{carriersOf}
 use Rattle.cds.proofs.carriers_of.Statement.{statement}
 use Rattle.cds.proofs.carriers_of.Tie as tie
 
-returns : tie.Need-returns
-unfolding carriersOf
-returns c = cc
-
 pub carriers-of-spec : {M : Type 1} → statement M
-carriers-of-spec =
-    tie.close
-    (tie.spec
-    (λ c κs. search needs)
-    (λ c κs. search needs)
-    (λ c κs. search needs)
-    (λ c κs. search needs)
-    (λ c κs. search needs)
-    (λ c. search needs)
-    (λ c. search needs)
-    (λ c. search needs)
-    (λ c. search needs)
-    (λ c. search needs)
-    (λ c. search needs)
-    (λ c. search needs)
-    (λ c. search needs)
-    returns)
+unfolding carriersOf
+carriers-of-spec = tie.close (tie.spec (λ c κs. search needs) (λ c κs. search needs) (λ c κs. search needs) (λ c κs. search needs) (λ c κs. search needs)
+    (λ c. search needs) (λ c. search needs) (λ c. search needs) (λ c. search needs) (λ c. search needs) (λ c. search needs) (λ c. search needs)
+    (λ c. search needs) (λ c. cc))

@@ -7,16 +7,6 @@ use Rattle.fields.proofs.Laws.{part-whole, too-short, long-enough, taken-short,
 use Rattle.cds.proofs.carriers_step.Statement.{statement}
 use Rattle.cds.proofs.carriers_step.Tie as tie
 
-returns : tie.Need-returns
-unfolding cds
-returns c = step-no cds _ _ _ _ (taken-short (cds .block) _ _ _ (omega (arith, too-short _ _ _ (c .before .short .ensures) (c .if1 .taken))))
-
-add-r : tie.Need-add-r
-add-r c = omega (arith, long-enough _ _ _ (c .before .short .ensures) (c .if1 .left))
-
-part-r-end : tie.Need-part-r-end
-part-r-end c = omega (arith, long-enough _ _ _ (c .before .short .ensures) (c .if1 .left))
-
 add-past-counted : tie.Need-add-past-counted
 add-past-counted c =
     let f = c .before .before .before .before .before .before in
@@ -50,20 +40,10 @@ returns-4 c =
     step-no cds _ _ _ _ (taken-zeros (cds .block) _ _ _ (omega (arith, h)) (cc))
 
 pub carriers-step-spec : {M : Type 1} → statement M
-carriers-step-spec =
-    tie.close
-    (tie.spec
-    (λ c κs. search needs)
-    returns
-    add-r
-    (λ c. search needs)
-    (λ c. search needs)
-    part-r-end
-    (λ c κs. search needs)
-    (λ c κs. search needs)
-    (λ c κs. search needs)
-    add-past-counted
-    (λ c κs. search needs)
-    returns-2
-    returns-3
-    returns-4)
+unfolding cds
+carriers-step-spec = tie.close (tie.spec (λ c κs. search needs)
+    (λ c. step-no cds _ _ _ _ (taken-short (cds .block) _ _ _ (omega (arith, too-short _ _ _ (c .before .short .ensures) (c .if1 .taken)))))
+    (λ c. omega (arith, long-enough _ _ _ (c .before .short .ensures) (c .if1 .left)))
+    (λ c. search needs) (λ c. search needs)
+    (λ c. omega (arith, long-enough _ _ _ (c .before .short .ensures) (c .if1 .left)))
+    (λ c κs. search needs) (λ c κs. search needs) (λ c κs. search needs) add-past-counted (λ c κs. search needs) returns-2 returns-3 returns-4)

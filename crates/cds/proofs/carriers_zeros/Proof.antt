@@ -4,9 +4,6 @@ use Rattle.rules.specs.Tables.{carriersZeros}
 use Rattle.cds.proofs.carriers_zeros.Statement.{statement}
 use Rattle.cds.proofs.carriers_zeros.Tie as tie
 
-returns : tie.Need-returns
-unfolding carriersZeros
-returns c = simp (← c .byte .ensures)
-
 pub carriers-zeros-spec : {M : Type 1} → statement M
-carriers-zeros-spec = tie.close (tie.spec (λ c κs. search needs) returns)
+unfolding carriersZeros
+carriers-zeros-spec = tie.close (tie.spec (λ c κs. search needs) (λ c. simp (← c .byte .ensures)))

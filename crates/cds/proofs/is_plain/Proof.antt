@@ -9,18 +9,6 @@ use Rattle.fields.proofs.Laws.{part-whole, long-enough, stands-at, counted-zero
 use Rattle.cds.proofs.is_plain.Statement.{statement}
 use Rattle.cds.proofs.is_plain.Tie as tie
 
-add-if2 : tie.Need-add-if2
-add-if2 c = omega (arith, long-enough _ _ _ (c .before .short .ensures) (c .if1 .left))
-
-shared-slice-read-if2 : tie.Need-shared-slice-read-if2
-shared-slice-read-if2 c = omega (arith, long-enough _ _ _ (c .before .before .short .ensures) (c .before .if1 .left))
-
-add-r : tie.Need-add-r
-add-r c = omega (arith, long-enough _ _ _ (c .before .before .before .short .ensures) (c .before .before .if1 .left))
-
-part-r-end : tie.Need-part-r-end
-part-r-end c = omega (arith, long-enough _ _ _ (c .before .before .before .short .ensures) (c .before .before .if1 .left))
-
 returns-3 : tie.Need-returns-3
 unfolding cds
 returns-3 c = λ e.
@@ -33,21 +21,11 @@ returns-3 c = λ e.
     (stands-at _ _ _ _ (counted-zero (now (a .b)) _ _ refl (omega (arith, h)) (c .before .before .before .before .before .if2 .left)) (omega (arith, h)))
 
 pub is-plain-spec : {M : Type 1} → statement M
-is-plain-spec =
-    tie.close
-    (tie.spec
-    (λ c. search needs)
-    (λ c κs. search needs)
+is-plain-spec = tie.close (tie.spec (λ c. search needs) (λ c κs. search needs) (λ c. λ e. absurd (differ (sym e)))
+    (λ c. omega (arith, long-enough _ _ _ (c .before .short .ensures) (c .if1 .left)))
+    (λ c. omega (arith, long-enough _ _ _ (c .before .before .short .ensures) (c .before .if1 .left)))
     (λ c. λ e. absurd (differ (sym e)))
-    add-if2
-    shared-slice-read-if2
-    (λ c. λ e. absurd (differ (sym e)))
-    add-r
-    (λ c. search needs)
-    (λ c. search needs)
-    part-r-end
-    (λ c κs. search needs)
-    (λ c κs. search needs)
-    (λ c κs. search needs)
-    returns-3
-    (λ c. λ e. absurd (differ (sym e))))
+    (λ c. omega (arith, long-enough _ _ _ (c .before .before .before .short .ensures) (c .before .before .if1 .left)))
+    (λ c. search needs) (λ c. search needs)
+    (λ c. omega (arith, long-enough _ _ _ (c .before .before .before .short .ensures) (c .before .before .if1 .left)))
+    (λ c κs. search needs) (λ c κs. search needs) (λ c κs. search needs) returns-3 (λ c. λ e. absurd (differ (sym e))))

@@ -1,8 +1,7 @@
 -- What the whole walk leaves is what the walk over the records that are still to come leaves, at the index reached.
 use native.Mathlib.Omega.{arith}
 use borrow.Author.Needs.{needs}
-use Rattle.rules.specs.Bytes.{byte}
-use Rattle.rules.specs.Tables.{cds}
+use Rattle.rules.specs.{Bytes.byte, Tables.cds}
 use Rattle.fields.specs.Place.{Reaches}
 use Rattle.fields.proofs.Walks.{begin, stop, end, joined}
 use Rattle.cds.proofs.Onward.{low, onward}
@@ -11,16 +10,16 @@ use Rattle.cds.proofs.past_carriers.Tie as tie
 
 pub past-carriers-spec : {M : Type 1} → statement M
 unfolding byte
-past-carriers-spec =
-    tie.close
-    (tie.spec (λ b at₀ index₀ left₀ at index left. Reaches cds b at₀ index₀ left₀ at index left) (λ b at₀ index₀ left₀ at index left. left)
-    (λ c κs. search needs)
+past-carriers-spec = tie.close (tie.spec
+    (λ b at₀ index₀ left₀ at index left. Reaches cds b at₀ index₀ left₀ at index left)
+    (λ b at₀ index₀ left₀ at index left. left) (λ c κs. search needs)
     (λ c. begin cds (c .skim .ensures .within) (search needs))
     (λ c κs. search needs) (λ c. search needs) (λ c κs. search needs) (λ c. search needs)
     (λ c. omega (arith, c .byte .ensures, low _ _ (c .before .before .before .before .carriers-step .ensures) (c .before .before .next .given .1)))
     (λ c. search needs) (λ c. search needs)
     (λ c. let f = c .before .before .before .before in
-    onward _ _ (f .carriers-step .ensures) (c .before .before .next .given .1) (f .before .before .loop .inv) (f .before .loop-test .taken) _ (rw (c .byte .ensures)))
+    onward _ _ (f .carriers-step .ensures) (c .before .before .next .given .1) (f .before .before .loop .inv) (f .before .loop-test .taken) _
+    (rw (c .byte .ensures)))
     (λ c. search needs)
     (λ c. let f = c .before .before .before in
     let w = f .before .before in

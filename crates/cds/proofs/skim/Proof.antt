@@ -1,8 +1,7 @@
 -- At each turn what is left of the records leaves what all of them leave.
 use native.Mathlib.Omega.{arith}
 use mathlib.Core.Path.{refl}
-use borrow.Author.Needs.{needs}
-use borrow.Author.Tests.{not-false}
+use borrow.Author.{Needs.needs, Tests.not-false}
 use Rattle.rules.specs.Tables.{cds}
 use Rattle.fields.specs.Place.{Reaches}
 use Rattle.fields.proofs.Walks.{begin}
@@ -11,10 +10,9 @@ use Rattle.cds.proofs.skim.Statement.{statement}
 use Rattle.cds.proofs.skim.Tie as tie
 
 pub skim-spec : {M : Type 1} → statement M
-skim-spec =
-    tie.close
-    (tie.spec (λ b o at₀ index₀ left₀ at index left. Reaches cds b (o .at) (o .first) (o .count) at index left) (λ b o at₀ index₀ left₀ at index left. left)
-    (λ c. search needs)
+skim-spec = tie.close (tie.spec
+    (λ b o at₀ index₀ left₀ at index left. Reaches cds b (o .at) (o .first) (o .count) at index left)
+    (λ b o at₀ index₀ left₀ at index left. left) (λ c. search needs)
     (λ c. begin cds (search needs) (search needs))
     (λ c κs. c .before .loop .inv .small)
     (λ c. omega (arith, c .before .before .is-plain .ensures (not-false _ (c .before .if1 .left)) .within))
@@ -23,6 +21,7 @@ skim-spec =
     (λ c. omega (arith, c .before .before .is-plain .ensures (not-false _ (c .before .if1 .left)) .within))
     (λ c. omega (arith, c .before .before .is-plain .ensures (not-false _ (c .before .if1 .left)) .within))
     (λ c. search needs) (λ c. search needs)
-    (λ c. onward _ _ (c .before .before .is-plain .ensures (not-false _ (c .before .if1 .left))) refl (c .before .before .before .before .loop .inv) (omega arith) _ refl)
+    (λ c. onward _ _ (c .before .before .is-plain .ensures (not-false _ (c .before .if1 .left))) refl (c .before .before .before .before .loop .inv)
+    (omega arith) _ refl)
     (λ c. omega (arith, c .before .loop .inv .small))
     (λ c. c .before .loop .inv))

@@ -4,11 +4,7 @@ use Rattle.rules.specs.Tables.{dcmHeadOf}
 use Rattle.dcm.proofs.head_of.Statement.{statement}
 use Rattle.dcm.proofs.head_of.Tie as tie
 
-returns : tie.Need-returns
-unfolding dcmHeadOf
-returns c = cc
-
 pub head-of-spec : {M : Type 1} → statement M
-head-of-spec =
-    tie.close
-    (tie.spec (λ c κs. search needs) (λ c κs. search needs) (λ c κs. search needs) (λ c. search needs) (λ c. search needs) (λ c. search needs) (λ c. search needs) returns)
+unfolding dcmHeadOf
+head-of-spec = tie.close (tie.spec (λ c κs. search needs) (λ c κs. search needs) (λ c κs. search needs) (λ c. search needs) (λ c. search needs)
+    (λ c. search needs) (λ c. search needs) (λ c. cc))

@@ -9,12 +9,6 @@ use Rattle.fields.proofs.Laws.{part-whole, long-enough, stands-at, counted-not,
 use Rattle.dcm.proofs.is_plain.Statement.{statement}
 use Rattle.dcm.proofs.is_plain.Tie as tie
 
-add-range-of : tie.Need-add-range-of
-add-range-of c = omega (arith, long-enough _ _ _ (c .before .short .ensures) (c .if1 .left))
-
-part-range-of-end : tie.Need-part-range-of-end
-part-range-of-end c = omega (arith, long-enough _ _ _ (c .before .short .ensures) (c .if1 .left))
-
 returns-2 : tie.Need-returns-2
 unfolding dcm
 returns-2 c = λ e.
@@ -26,15 +20,8 @@ returns-2 c = λ e.
     step-so dcm _ _ _ (taken-here (dcm .block) _ _ _ (omega (arith, h)) refl (cc)) _ (stands-at _ _ _ _ (counted-not _ _ _ refl) (omega (arith, h)))
 
 pub is-plain-spec : {M : Type 1} → statement M
-is-plain-spec =
-    tie.close
-    (tie.spec
-    (λ c κs. search needs)
-    (λ c. λ e. absurd (differ (sym e)))
-    add-range-of
-    (λ c. search needs)
-    (λ c. search needs)
-    part-range-of-end
-    (λ c κs. search needs)
-    (λ c κs. search needs)
-    returns-2)
+is-plain-spec = tie.close (tie.spec (λ c κs. search needs) (λ c. λ e. absurd (differ (sym e)))
+    (λ c. omega (arith, long-enough _ _ _ (c .before .short .ensures) (c .if1 .left)))
+    (λ c. search needs) (λ c. search needs)
+    (λ c. omega (arith, long-enough _ _ _ (c .before .short .ensures) (c .if1 .left)))
+    (λ c κs. search needs) (λ c κs. search needs) returns-2)

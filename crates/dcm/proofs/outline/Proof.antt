@@ -12,9 +12,7 @@ use Rattle.dcm.proofs.outline.Tie as tie
 
 pub outline-spec : {M : Type 1} → statement M
 unfolding dcmHead
-outline-spec =
-    tie.close
-    (tie.spec (λ c κs. search needs)
+outline-spec = tie.close (tie.spec (λ c κs. search needs)
     (λ c. head-no Dcm _ refl 8 (taken-short dcmHead _ _ 7 (omega (arith, too-short _ _ _ (c .before .short .ensures) (c .if1 .taken)))))
     (λ c κs. search needs) (λ c κs. search needs) (λ c κs. search needs) (λ c. search needs) (λ c κs. search needs)
     (λ c. let f = c .before .before .before .before .before in

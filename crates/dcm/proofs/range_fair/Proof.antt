@@ -1,17 +1,10 @@
 -- Each test is a clause of the rule.
-use borrow.Author.Tests.{le-leb, lt-leb}
-use borrow.Author.Needs.{needs}
+use borrow.Author.{Tests.le-leb, Tests.lt-leb, Needs.needs}
 use Rattle.rules.specs.Tables.{rangeFair}
 use Rattle.dcm.proofs.range_fair.Statement.{statement}
 use Rattle.dcm.proofs.range_fair.Tie as tie
 
-returns : tie.Need-returns
-unfolding rangeFair
-returns c = simp (lt-leb _ _ (c .if1 .taken))
-
-returns-2 : tie.Need-returns-2
-unfolding rangeFair
-returns-2 c = simp (le-leb _ _ (c .before .if1 .left))
-
 pub range-fair-spec : {M : Type 1} → statement M
-range-fair-spec = tie.close (tie.spec returns (λ c. search needs) (λ c. search needs) returns-2)
+unfolding rangeFair
+range-fair-spec = tie.close (tie.spec (λ c. simp (lt-leb _ _ (c .if1 .taken))) (λ c. search needs) (λ c. search needs)
+    (λ c. simp (le-leb _ _ (c .before .if1 .left))))

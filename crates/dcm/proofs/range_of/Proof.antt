@@ -4,9 +4,6 @@ use Rattle.rules.specs.Tables.{rangeOf}
 use Rattle.dcm.proofs.range_of.Statement.{statement}
 use Rattle.dcm.proofs.range_of.Tie as tie
 
-returns : tie.Need-returns
-unfolding rangeOf
-returns c = cc
-
 pub range-of-spec : {M : Type 1} → statement M
-range-of-spec = tie.close (tie.spec (λ c κs. search needs) returns)
+unfolding rangeOf
+range-of-spec = tie.close (tie.spec (λ c κs. search needs) (λ c. cc))

@@ -8,16 +8,6 @@ use Rattle.fields.proofs.Laws.{part-whole, too-short, long-enough, stands-at, c
 use Rattle.dcm.proofs.range_step.Statement.{statement}
 use Rattle.dcm.proofs.range_step.Tie as tie
 
-returns : tie.Need-returns
-unfolding dcm
-returns c = step-no dcm _ _ _ _ (taken-short (dcm .block) _ _ _ (omega (arith, too-short _ _ _ (c .before .short .ensures) (c .if1 .taken))))
-
-add-range-of : tie.Need-add-range-of
-add-range-of c = omega (arith, long-enough _ _ _ (c .before .short .ensures) (c .if1 .left))
-
-part-range-of-end : tie.Need-part-range-of-end
-part-range-of-end c = omega (arith, long-enough _ _ _ (c .before .short .ensures) (c .if1 .left))
-
 add-behind : tie.Need-add-t13
 add-behind c =
     let f = c .before .before .before .before in
@@ -42,17 +32,10 @@ returns-3 c =
     step-no dcm _ _ _ _ (taken-unfair (dcm .block) _ _ _ (omega (arith, h)) refl (cc))
 
 pub range-step-spec : {M : Type 1} → statement M
-range-step-spec =
-    tie.close
-    (tie.spec
-    (λ c κs. search needs)
-    returns
-    add-range-of
-    (λ c. search needs)
-    (λ c. search needs)
-    part-range-of-end
-    (λ c κs. search needs)
-    (λ c κs. search needs)
-    add-behind
-    returns-2
-    returns-3)
+unfolding dcm
+range-step-spec = tie.close (tie.spec (λ c κs. search needs)
+    (λ c. step-no dcm _ _ _ _ (taken-short (dcm .block) _ _ _ (omega (arith, too-short _ _ _ (c .before .short .ensures) (c .if1 .taken)))))
+    (λ c. omega (arith, long-enough _ _ _ (c .before .short .ensures) (c .if1 .left)))
+    (λ c. search needs) (λ c. search needs)
+    (λ c. omega (arith, long-enough _ _ _ (c .before .short .ensures) (c .if1 .left)))
+    (λ c κs. search needs) (λ c κs. search needs) add-behind returns-2 returns-3)

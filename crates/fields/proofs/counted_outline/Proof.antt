@@ -5,9 +5,7 @@ use Rattle.fields.proofs.counted_outline.Statement.{statement}
 use Rattle.fields.proofs.counted_outline.Tie as tie
 
 pub counted-outline-spec : {M : Type 1} → statement M
-counted-outline-spec =
-    tie.close
-    (tie.spec (λ c κs. search needs) (λ c κs. search needs)
+counted-outline-spec = tie.close (tie.spec (λ c κs. search needs) (λ c κs. search needs)
     (λ c. counted-no _ _ (c .before .before .byte .ensures) (c .if1 .taken))
     (λ c. search needs)
     (λ c. counted-so _ _ _ (c .before .before .byte .ensures) (c .before .byte2 .ensures) (c .if1 .left)))

@@ -6,21 +6,8 @@ use Rattle.firmware.proofs.Laws.{refused-check, right-check}
 use Rattle.firmware.proofs.mofrindi_check_section.Statement.{statement}
 use Rattle.firmware.proofs.mofrindi_check_section.Tie as tie
 
-returns : tie.Need-returns
-unfolding check
-returns c = refused-check _ _ _ (sym (c .before .read .given .1) ∙ c .before .before .before .read-section .ensures .0)
-
-returns-2 : tie.Need-returns-2
-unfolding check
-returns-2 c = right-check _ _ _ (sym (c .enum-told .given .1) ∙ c .before .before .read-section .ensures .0)
-
 pub mofrindi-check-section-spec : {M : Type 1} → statement M
-mofrindi-check-section-spec =
-    tie.close
-    (tie.spec
-    (λ c κs. search needs)
-    (λ c. search needs)
-    (λ c. search needs)
-    (λ c. search needs)
-    returns
-    returns-2)
+unfolding check
+mofrindi-check-section-spec = tie.close (tie.spec (λ c κs. search needs) (λ c. search needs) (λ c. search needs) (λ c. search needs)
+    (λ c. refused-check _ _ _ (sym (c .before .read .given .1) ∙ c .before .before .before .read-section .ensures .0))
+    (λ c. right-check _ _ _ (sym (c .enum-told .given .1) ∙ c .before .before .read-section .ensures .0)))

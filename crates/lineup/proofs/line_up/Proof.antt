@@ -9,9 +9,7 @@ use Rattle.lineup.proofs.line_up.Statement.{statement}
 use Rattle.lineup.proofs.line_up.Tie as tie
 
 pub line-up-spec : {M : Type 1} → statement M
-line-up-spec =
-    tie.close
-    (tie.spec (λ c κs. search needs)
+line-up-spec = tie.close (tie.spec (λ c κs. search needs)
     (λ c. let r = c .refused .ensures in
     let head = now (c .before .before .before .before .before .args .head) in
     (refused-alone head _ _ (refused-shown head refl (c .before .before .if1 .taken) (r .0)), (r .1, (omega arith, refl))))

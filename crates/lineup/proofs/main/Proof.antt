@@ -5,24 +5,8 @@ use Rattle.receiver.proofs.Laws.{fresh-store}
 use Rattle.lineup.proofs.main.Statement.{statement}
 use Rattle.lineup.proofs.main.Tie as tie
 
-line-up-requires : tie.Need-line-up-requires
-line-up-requires c κs = let r = c .before .before .before .before .before .before .read-full .ensures in (omega (arith, r .0, r .1), fresh-store _)
-
 pub main-spec : {M : Type 1} → statement M
-main-spec =
-    tie.close
-    (tie.spec
-    (λ c. search needs)
-    (λ c κs. search needs)
-    (λ c. search needs)
-    (λ c. search needs)
-    (λ c. search needs)
-    line-up-requires
-    (λ c. search needs)
-    (λ c. search needs)
-    (λ c κs. search needs)
-    (λ c. search needs)
-    (λ c. search needs)
-    (λ c κs. search needs)
-    (λ c. search needs)
+main-spec = tie.close (tie.spec (λ c. search needs) (λ c κs. search needs) (λ c. search needs) (λ c. search needs) (λ c. search needs)
+    (λ c κs. let r = c .before .before .before .before .before .before .read-full .ensures in (omega (arith, r .0, r .1), fresh-store _))
+    (λ c. search needs) (λ c. search needs) (λ c κs. search needs) (λ c. search needs) (λ c. search needs) (λ c κs. search needs) (λ c. search needs)
     (λ c. search needs))

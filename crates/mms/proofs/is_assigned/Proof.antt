@@ -3,10 +3,8 @@ use Prim.Native.Nat.{_/_, _%_}
 use native.Mathlib.Omega.{arith}
 use mathlib.Core.Path.{sym}
 use denote.Ref.{now}
-use borrow.Author.Needs.{needs}
-use borrow.Author.Tests.{eq-eqb, le-leb}
-use Rattle.rules.specs.Bytes.{byte}
-use Rattle.rules.specs.Tables.{modeZeros, modeOf, assigned}
+use borrow.Author.{Needs.needs, Tests.eq-eqb, Tests.le-leb}
+use Rattle.rules.specs.{Bytes.byte, Tables.modeZeros, Tables.modeOf, Tables.assigned}
 use Rattle.rules.proofs.Taken.{differ}
 use Rattle.mms.proofs.is_assigned.Statement.{statement}
 use Rattle.mms.proofs.is_assigned.Tie as tie
@@ -30,15 +28,5 @@ returns-3 c = λ e.
     )
 
 pub is-assigned-spec : {M : Type 1} → statement M
-is-assigned-spec =
-    tie.close
-    (tie.spec
-    (λ c κs. search needs)
-    (λ c κs. search needs)
-    (λ c κs. search needs)
-    (λ c. λ e. absurd (differ (sym e)))
-    (λ c. λ e. absurd (differ (sym e)))
-    (λ c κs. search needs)
-    (λ c κs. search needs)
-    returns-3
-    (λ c. λ e. absurd (differ (sym e))))
+is-assigned-spec = tie.close (tie.spec (λ c κs. search needs) (λ c κs. search needs) (λ c κs. search needs) (λ c. λ e. absurd (differ (sym e)))
+    (λ c. λ e. absurd (differ (sym e))) (λ c κs. search needs) (λ c κs. search needs) returns-3 (λ c. λ e. absurd (differ (sym e))))

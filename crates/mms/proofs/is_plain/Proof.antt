@@ -3,26 +3,13 @@ use native.Mathlib.Omega.{arith}
 use mathlib.Core.Path.{refl, sym}
 use lib.ListN.{take}
 use denote.Ref.{now}
-use borrow.Author.Needs.{needs}
-use borrow.Author.Tests.{le-leb}
+use borrow.Author.{Needs.needs, Tests.le-leb}
 use Rattle.rules.specs.Bytes.{from}
 use Rattle.rules.specs.Tables.{modeZeros, modeOf, assigned, modeFair, mms}
 use Rattle.rules.proofs.Taken.{differ, both-left, both-right}
 use Rattle.fields.proofs.Laws.{part-whole, long-enough, stands-at, counted-zero, taken-here, step-so}
 use Rattle.mms.proofs.is_plain.Statement.{statement}
 use Rattle.mms.proofs.is_plain.Tie as tie
-
-add-if2 : tie.Need-add-if2
-add-if2 c = omega (arith, long-enough _ _ _ (c .before .short .ensures) (c .if1 .left))
-
-shared-slice-read-if2 : tie.Need-shared-slice-read-if2
-shared-slice-read-if2 c = omega (arith, long-enough _ _ _ (c .before .before .short .ensures) (c .before .if1 .left))
-
-add-is-assigned : tie.Need-add-is-assigned
-add-is-assigned c = omega (arith, long-enough _ _ _ (c .before .before .before .before .short .ensures) (c .before .before .before .if1 .left))
-
-part-is-assigned-end : tie.Need-part-is-assigned-end
-part-is-assigned-end c = omega (arith, long-enough _ _ _ (c .before .before .before .before .short .ensures) (c .before .before .before .if1 .left))
 
 returns-4 : tie.Need-returns-4
 unfolding mms modeFair
@@ -34,23 +21,16 @@ returns-4 c = λ e.
     let both = rw (part-whole (now (a .b)) (a .at) 6) at (c .is-assigned .ensures e) in
     let zeros = both-left (modeZeros r) (assigned (modeOf r)) both in
     let values = both-right (modeZeros r) (assigned (modeOf r)) both in
-    step-so mms _ _ _ (taken-here (mms .block) _ _ _ (omega (arith, h)) zeros (rw (values, le-leb (a .index) 255 (omega (arith, c .before .before .if3 .left))))) _
+    step-so mms _ _ _ (taken-here (mms .block) _ _ _ (omega (arith, h)) zeros
+    (rw (values, le-leb (a .index) 255 (omega (arith, c .before .before .if3 .left))))) _
     (stands-at _ _ _ _ (counted-zero (now (a .b)) _ _ refl (omega (arith, h)) (c .before .before .before .if2 .left)) (omega (arith, h)))
 
 pub is-plain-spec : {M : Type 1} → statement M
-is-plain-spec =
-    tie.close
-    (tie.spec
-    (λ c. search needs)
-    (λ c κs. search needs)
-    (λ c. λ e. absurd (differ (sym e)))
-    add-if2
-    shared-slice-read-if2
-    (λ c. λ e. absurd (differ (sym e)))
-    (λ c. λ e. absurd (differ (sym e)))
-    add-is-assigned
-    (λ c. search needs)
-    (λ c. search needs)
-    part-is-assigned-end
-    (λ c κs. search needs)
-    returns-4)
+is-plain-spec = tie.close (tie.spec (λ c. search needs) (λ c κs. search needs) (λ c. λ e. absurd (differ (sym e)))
+    (λ c. omega (arith, long-enough _ _ _ (c .before .short .ensures) (c .if1 .left)))
+    (λ c. omega (arith, long-enough _ _ _ (c .before .before .short .ensures) (c .before .if1 .left)))
+    (λ c. λ e. absurd (differ (sym e))) (λ c. λ e. absurd (differ (sym e)))
+    (λ c. omega (arith, long-enough _ _ _ (c .before .before .before .before .short .ensures) (c .before .before .before .if1 .left)))
+    (λ c. search needs) (λ c. search needs)
+    (λ c. omega (arith, long-enough _ _ _ (c .before .before .before .before .short .ensures) (c .before .before .before .if1 .left)))
+    (λ c κs. search needs) returns-4)

@@ -1,6 +1,5 @@
 -- Each test is a clause of the rule.
-use borrow.Author.Tests.{le-leb, lt-leb}
-use borrow.Author.Needs.{needs}
+use borrow.Author.{Tests.le-leb, Tests.lt-leb, Needs.needs}
 use Rattle.rules.specs.Tables.{modeFair, assigned}
 use Rattle.mms.proofs.mode_fair.Statement.{statement}
 use Rattle.mms.proofs.mode_fair.Tie as tie
@@ -13,21 +12,8 @@ returns-2 : tie.Need-returns-2
 unfolding modeFair assigned
 returns-2 c = simp (le-leb _ _ (c .if3 .left), c .before .before .if2 .taken, ← c .before .before .before .inner-assigned .ensures, c .before .before .before .before .if1 .taken, ← c .before .before .before .before .before .system-assigned .ensures)
 
-returns-3 : tie.Need-returns-3
-unfolding modeFair assigned
-returns-3 c = simp (c .if2 .left, ← c .before .inner-assigned .ensures, c .before .before .if1 .taken, ← c .before .before .before .system-assigned .ensures)
-
-returns-4 : tie.Need-returns-4
-unfolding modeFair assigned
-returns-4 c = simp (c .if1 .left, ← c .before .system-assigned .ensures)
-
 pub mode-fair-spec : {M : Type 1} → statement M
-mode-fair-spec =
-    tie.close
-    (tie.spec
-    (λ c κs. search needs)
-    (λ c κs. search needs)
-    returns
-    returns-2
-    returns-3
-    returns-4)
+unfolding modeFair assigned
+mode-fair-spec = tie.close (tie.spec (λ c κs. search needs) (λ c κs. search needs) returns returns-2
+    (λ c. simp (c .if2 .left, ← c .before .inner-assigned .ensures, c .before .before .if1 .taken, ← c .before .before .before .system-assigned .ensures))
+    (λ c. simp (c .if1 .left, ← c .before .system-assigned .ensures)))

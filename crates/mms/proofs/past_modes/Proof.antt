@@ -9,10 +9,9 @@ use Rattle.mms.proofs.past_modes.Statement.{statement}
 use Rattle.mms.proofs.past_modes.Tie as tie
 
 pub past-modes-spec : {M : Type 1} → statement M
-past-modes-spec =
-    tie.close
-    (tie.spec (λ b at₀ index₀ left₀ at index left. Reaches mms b at₀ index₀ left₀ at index left) (λ b at₀ index₀ left₀ at index left. left)
-    (λ c κs. search needs)
+past-modes-spec = tie.close (tie.spec
+    (λ b at₀ index₀ left₀ at index left. Reaches mms b at₀ index₀ left₀ at index left)
+    (λ b at₀ index₀ left₀ at index left. left) (λ c κs. search needs)
     (λ c. begin mms (c .skim .ensures .within) (search needs))
     (λ c κs. search needs) (λ c. search needs)
     (λ c. omega (arith, low _ _ (c .before .before .before .mode-step .ensures) (c .before .next .given .1)))

@@ -11,15 +11,8 @@ add-count c = omega (arith, c .before .before .before .before .before .lines-of 
 returns : tie.Need-returns
 returns c =
     let w = c .before .before .before .channel-line .ensures in
-    added (c .before .before .before .before .before .before .before .before .before .before .before .before .before .args .number) (c .before .before .before .before .before .before .look-up .ensures) (w .1) (w .0) (c .before .before .before .before .before .lines-of .ensures)
+    added (c .before .before .before .before .before .before .before .before .before .before .before .before .before .args .number)
+    (c .before .before .before .before .before .before .look-up .ensures) (w .1) (w .0) (c .before .before .before .before .before .lines-of .ensures)
 
 pub add-line-spec : {M : Type 1} → statement M
-add-line-spec =
-    tie.close
-    (tie.spec
-    (λ c κs. search needs)
-    (λ c κs. search needs)
-    (λ c κs. search needs)
-    add-count
-    (λ c. search needs)
-    returns)
+add-line-spec = tie.close (tie.spec (λ c κs. search needs) (λ c κs. search needs) (λ c κs. search needs) add-count (λ c. search needs) returns)

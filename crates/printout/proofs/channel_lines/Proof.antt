@@ -8,9 +8,7 @@ use Rattle.printout.proofs.channel_lines.Statement.{statement}
 use Rattle.printout.proofs.channel_lines.Tie as tie
 
 pub channel-lines-spec : {M : Type 1} → statement M
-channel-lines-spec =
-    tie.close
-    (tie.spec (λ c κs. search needs)
+channel-lines-spec = tie.close (tie.spec (λ c κs. search needs)
     (λ c. none-written _ _ _ (no-lines-of _ _ _ (c .before .check .ensures) (c .if1 .taken)))
     (λ c. search needs)
     (λ c κs. let f = c .before in (searchable _ _ (sym (f .before .check .ensures) ∙ f .if1 .left) Dcm refl, blank 4096 _ refl))

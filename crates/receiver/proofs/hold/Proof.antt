@@ -36,13 +36,4 @@ returns-2 c =
     (r .answer, r .bytes)
 
 pub hold-spec : {M : Type 1} → statement M
-hold-spec =
-    tie.close
-    (tie.spec
-    (λ c κs. search needs)
-    (λ c κs. search needs)
-    (λ c κs. search needs)
-    put-requires
-    (λ c. search needs)
-    returns
-    returns-2)
+hold-spec = tie.close (tie.spec (λ c κs. search needs) (λ c κs. search needs) (λ c κs. search needs) put-requires (λ c. search needs) returns returns-2)

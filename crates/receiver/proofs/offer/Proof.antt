@@ -4,8 +4,7 @@ use Prim.Native.Nat.{_<_, _≤_}
 use mathlib.Core.Path.{sym, _∙_}
 use lib.ListN.{length}
 use denote.Ref.{now}
-use borrow.Author.Needs.{needs}
-use borrow.Author.Tests.{not-true, not-false}
+use borrow.Author.{Needs.needs, Tests.not-true, Tests.not-false}
 use Rattle.rules.specs.Holding.{limitOf, storeSize}
 use Rattle.rules.proofs.Told.{offer-told}
 use Rattle.receiver.proofs.Laws.{admitted, short-store, not-formed, refused}
@@ -51,21 +50,7 @@ returns-3 c =
     (c .before .read .given .0 .0) (sym (c .before .read .given .1) ∙ e .read-section .ensures .0) in
     (r .answer, (r .bytes, offer-told (a .state) _ _ (r .answer)))
 
-returns-4 : tie.Need-returns-4
-returns-4 c = let h = c .before .before .hold .ensures in (h .0, (h .1, offer-told _ _ _ (h .0)))
-
 pub offer-spec : {M : Type 1} → statement M
-offer-spec =
-    tie.close
-    (tie.spec
-    (λ c κs. search needs)
-    returns
-    (λ c κs. search needs)
-    returns-2
-    (λ c κs. search needs)
-    (λ c. search needs)
-    (λ c. search needs)
-    hold-requires
-    returns-3
-    (λ c. search needs)
-    returns-4)
+offer-spec = tie.close (tie.spec (λ c κs. search needs) returns (λ c κs. search needs) returns-2 (λ c κs. search needs) (λ c. search needs) (λ c. search needs)
+    hold-requires returns-3 (λ c. search needs)
+    (λ c. let h = c .before .before .hold .ensures in (h .0, (h .1, offer-told _ _ _ (h .0)))))

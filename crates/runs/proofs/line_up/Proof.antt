@@ -1,7 +1,6 @@
 -- As in the program, with one piece.
 use native.Mathlib.Omega.{arith}
-use mathlib.Core.Path.{refl, ap, _∙_}
-use mathlib.Core.List.{[], _∷_}
+use mathlib.Core.{Path.refl, Path.ap, Path._∙_, List.[], List._∷_}
 use denote.Ref.{now}
 use borrow.Author.Needs.{needs}
 use Rattle.rules.specs.Lineup.{lineup}
@@ -9,9 +8,6 @@ use Rattle.printout.proofs.Shown.{all-shown, refused-shown}
 use Rattle.runs.proofs.Laws.{two-first}
 use Rattle.runs.proofs.line_up.Statement.{statement}
 use Rattle.runs.proofs.line_up.Tie as tie
-
-gather-requires : tie.Need-gather-requires
-gather-requires c κs = rw (c .before .before .map-of .ensures) (c .before .before .before .before .before .before .pre)
 
 returns : tie.Need-returns
 returns c =
@@ -24,21 +20,12 @@ returns-2 c =
     let m = c .before .before .before .before .before .before .before .before .before .map-of in
     let p = c .print .ensures in
     let input = now (c .before .before .before .before .before .before .before .before .before .before .before .before .before .args .input) in (
-      all-shown input (m .result) (g .result) _ (m .ensures) (record { pieces = _ ∷ []; is = g .ensures }) (p .0) (p .1 .0) ∙ ap lineup (two-first input (c .before .before .before .before .before .before .before .before .before .before .if1 .left)),
+      all-shown input (m .result) (g .result) _ (m .ensures) (record { pieces = _ ∷ []; is = g .ensures }) (p .0) (p .1 .0)
+          ∙ ap lineup (two-first input (c .before .before .before .before .before .before .before .before .before .before .if1 .left)),
       p .1 .1,
     )
 
 pub line-up-spec : {M : Type 1} → statement M
-line-up-spec =
-    tie.close
-    (tie.spec
-    (λ c κs. search needs)
-    returns
-    (λ c κs. search needs)
-    (λ c. search needs)
-    (λ c. search needs)
-    (λ c. search needs)
-    gather-requires
-    (λ c κs. search needs)
-    (λ c. search needs)
-    returns-2)
+line-up-spec = tie.close (tie.spec (λ c κs. search needs) returns (λ c κs. search needs) (λ c. search needs) (λ c. search needs) (λ c. search needs)
+    (λ c κs. rw (c .before .before .map-of .ensures) (c .before .before .before .before .before .before .pre))
+    (λ c κs. search needs) (λ c. search needs) returns-2)

@@ -13,14 +13,16 @@ returns c =
     let l = c .before .before .line-up in
     let e = l .ensures in
     let a = c .before .before .before .before .before .before .before .before .args in
-    no-room (now (a .input)) (now (a .out)) (take (l .result .heading) (l .last .1 .1 .0)) (take (l .result .lines) (l .last .1 .1 .1 .0)) _ _ (e .0) (e .1 .0 .1) (e .1 .1 .1) (omega (arith, c .if1 .taken))
+    no-room (now (a .input)) (now (a .out)) (take (l .result .heading) (l .last .1 .1 .0)) (take (l .result .lines) (l .last .1 .1 .1 .0)) _ _ (e .0)
+    (e .1 .0 .1) (e .1 .1 .1) (omega (arith, c .if1 .taken))
 
 returns-2 : tie.Need-returns-2
 returns-2 c =
     let l = c .before .before .before .line-up in
     let e = l .ensures in
     let a = c .before .before .before .before .before .before .before .before .before .args in
-    no-room (now (a .input)) (now (a .out)) (take (l .result .heading) (l .last .1 .1 .0)) (take (l .result .lines) (l .last .1 .1 .1 .0)) _ _ (e .0) (e .1 .0 .1) (e .1 .1 .1) (omega (arith, c .if2 .taken, c .before .if1 .left))
+    no-room (now (a .input)) (now (a .out)) (take (l .result .heading) (l .last .1 .1 .0)) (take (l .result .lines) (l .last .1 .1 .1 .0)) _ _ (e .0)
+    (e .1 .0 .1) (e .1 .1 .1) (omega (arith, c .if2 .taken, c .before .if1 .left))
 
 returns-3 : tie.Need-returns-3
 returns-3 c =
@@ -31,20 +33,5 @@ returns-3 c =
     (c .before .before .before .before .before .before .before .put .ensures) (c .before .before .put2 .ensures)
 
 pub trial-lineup-spec : {M : Type 1} → statement M
-trial-lineup-spec =
-    tie.close
-    (tie.spec
-    (λ c. search needs)
-    (λ c κs. fresh-store _)
-    returns
-    (λ c. search needs)
-    returns-2
-    (λ c. search needs)
-    (λ c. search needs)
-    (λ c κs. search needs)
-    (λ c. search needs)
-    (λ c. search needs)
-    (λ c κs. search needs)
-    (λ c. search needs)
-    (λ c. search needs)
-    returns-3)
+trial-lineup-spec = tie.close (tie.spec (λ c. search needs) (λ c κs. fresh-store _) returns (λ c. search needs) returns-2 (λ c. search needs)
+    (λ c. search needs) (λ c κs. search needs) (λ c. search needs) (λ c. search needs) (λ c κs. search needs) (λ c. search needs) (λ c. search needs) returns-3)

@@ -9,10 +9,7 @@ use Rattle.search.proofs.carrier_at.Tie as tie
 
 pub carrier-at-spec : {M : Type 1} → statement M
 unfolding carrierFound cds
-carrier-at-spec =
-    tie.close
-    (tie.spec
-    (λ c. rw (no-entry Cds _ _ (c .if1 .taken)))
-    (λ c κs. search needs) (λ c κs. search needs) (λ c κs. search needs) (λ c. search needs) (λ c. search needs) (λ c κs. search needs) (λ c κs. search needs)
+carrier-at-spec = tie.close (tie.spec (λ c. rw (no-entry Cds _ _ (c .if1 .taken))) (λ c κs. search needs) (λ c κs. search needs) (λ c κs. search needs)
+    (λ c. search needs) (λ c. search needs) (λ c κs. search needs) (λ c κs. search needs)
     (λ c. let f = c .before .before in
     rw (c .carrier-khz .ensures, c .before .beyond .ensures, f .carriers-of .ensures, f .before .part .ensures, f .before .before .place-in .ensures, an-entry Cds _ _ (f .before .before .before .if1 .left))))

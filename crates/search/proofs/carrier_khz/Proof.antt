@@ -6,16 +6,9 @@ use borrow.Author.Needs.{needs}
 use Rattle.search.proofs.carrier_khz.Statement.{statement}
 use Rattle.search.proofs.carrier_khz.Tie as tie
 
-mul-result : tie.Need-mul-result
-mul-result c = omega (arith, product (c .before .before .args .k) (c .in-khz2 .result) (omega arith) (c .in-khz2 .ensures .1))
-
-add-result : tie.Need-add-result
-add-result c = omega (arith, product (c .before .before .args .k) (c .in-khz2 .result) (omega arith) (c .in-khz2 .ensures .1), c .before .in-khz .ensures .1)
-
-returns : tie.Need-returns
-unfolding carrierKhz
-returns c = simp (c .in-khz2 .ensures .0, c .before .in-khz .ensures .0)
-
 pub carrier-khz-spec : {M : Type 1} → statement M
-carrier-khz-spec =
-    tie.close (tie.spec (λ c κs. search needs) (λ c κs. search needs) mul-result add-result returns)
+unfolding carrierKhz
+carrier-khz-spec = tie.close (tie.spec (λ c κs. search needs) (λ c κs. search needs)
+    (λ c. omega (arith, product (c .before .before .args .k) (c .in-khz2 .result) (omega arith) (c .in-khz2 .ensures .1)))
+    (λ c. omega (arith, product (c .before .before .args .k) (c .in-khz2 .result) (omega arith) (c .in-khz2 .ensures .1), c .before .in-khz .ensures .1))
+    (λ c. simp (c .in-khz2 .ensures .0, c .before .in-khz .ensures .0)))

@@ -1,8 +1,7 @@
 -- The live section without its last four bytes; of fewer than four none are left.
 use Prim.Native.Nat.{_-_}
 use mathlib.Core.Path.{_≡_, sym}
-use lib.ListN.{length}
-use lib.Seq.{length-take-le}
+use lib.{ListN.length, Seq.length-take-le}
 use denote.Ref.{now}
 use native.Mathlib.Omega.{arith}
 use Rattle.rules.specs.Section.{withoutCrc}
@@ -10,24 +9,10 @@ use borrow.Author.Needs.{needs}
 use Rattle.search.proofs.live_bytes.Statement.{statement}
 use Rattle.search.proofs.live_bytes.Tie as tie
 
-returns : tie.Need-returns
-unfolding withoutCrc
-returns c = let none : length (now (c .before .before .live-section .result)) - 4 ≡ 0 = omega arith in rw (← c .before .before .live-section .ensures, none)
-
-slice-aggregate-result-2 : tie.Need-slice-aggregate-result-2
-slice-aggregate-result-2 c = sym (length-take-le _ _ (omega arith))
-
-returns-2 : tie.Need-returns-2
-unfolding withoutCrc
-returns-2 c = rw (← c .before .before .live-section .ensures)
-
 pub live-bytes-spec : {M : Type 1} → statement M
-live-bytes-spec =
-    tie.close
-    (tie.spec
-    (λ c κs. search needs)
+unfolding withoutCrc
+live-bytes-spec = tie.close (tie.spec (λ c κs. search needs) (λ c. search needs)
+    (λ c. let none : length (now (c .before .before .live-section .result)) - 4 ≡ 0 = omega arith in rw (← c .before .before .live-section .ensures, none))
     (λ c. search needs)
-    returns
-    (λ c. search needs)
-    slice-aggregate-result-2
-    returns-2)
+    (λ c. sym (length-take-le _ _ (omega arith)))
+    (λ c. rw (← c .before .before .live-section .ensures)))

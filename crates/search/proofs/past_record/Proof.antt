@@ -1,18 +1,12 @@
 -- Each table has its record's size, and says whether descriptors follow it.
 use Prim.Native.Nat.{ℕ, _+_, _≤_}
 use native.Mathlib.Omega.{arith}
-use mathlib.Core.Path.{_≡_, sym, subst}
-use mathlib.Core.List.{List}
+use mathlib.Core.{Path._≡_, Path.sym, Path.subst, List.List}
 use borrow.Author.Needs.{needs}
-use Rattle.rules.specs.Bytes.{from}
-use Rattle.rules.specs.Descriptors.{counted}
-use Rattle.rules.specs.Layout.{extent}
+use Rattle.rules.specs.{Bytes.from, Descriptors.counted, Layout.extent, declared.Table.Table}
 use Rattle.rules.specs.Tables.{cds, mms, vcm, dcm}
-use Rattle.rules.specs.declared.Table.{Table}
 use Rattle.rules.specs.declared.Table.the-variants as table
-use Rattle.fields.specs.Place.{Stands}
-use Rattle.fields.specs.Outline.{layoutOf}
-use Rattle.fields.specs.declared.Skip.{Skip}
+use Rattle.fields.specs.{Place.Stands, Outline.layoutOf, declared.Skip.Skip}
 use Rattle.search.proofs.past_record.Statement.{statement}
 use Rattle.search.proofs.past_record.Tie as tie
 
@@ -27,13 +21,15 @@ size-as t u e included bs n h = subst (λ (x : Table). extent (layoutOf x includ
 
 pub past-record-spec : {M : Type 1} → statement M
 unfolding cds mms vcm dcm
-past-record-spec =
-    tie.close
-    (tie.spec
-    (λ c. search needs) (λ c. omega (arith, size-as _ table.Cds (c .enum-told .given .1) _ _ _ (c .before .before .before .pre))) (λ c κs. search needs)
-    (λ c. search needs) (λ c. omega (arith, size-as _ table.Mms (c .enum-told2 .given .1) _ _ _ (c .before .before .before .pre))) (λ c κs. search needs)
-    (λ c. search needs) (λ c. omega (arith, size-as _ table.Vcm (c .enum-told3 .given .1) _ _ _ (c .before .before .before .pre))) (λ c κs. search needs)
-    (λ c. search needs) (λ c. omega (arith, size-as _ table.Dcm (c .enum-told4 .given .1) _ _ _ (c .before .before .before .pre))) (λ c κs. search needs)
+past-record-spec = tie.close (tie.spec (λ c. search needs)
+    (λ c. omega (arith, size-as _ table.Cds (c .enum-told .given .1) _ _ _ (c .before .before .before .pre)))
+    (λ c κs. search needs) (λ c. search needs)
+    (λ c. omega (arith, size-as _ table.Mms (c .enum-told2 .given .1) _ _ _ (c .before .before .before .pre)))
+    (λ c κs. search needs) (λ c. search needs)
+    (λ c. omega (arith, size-as _ table.Vcm (c .enum-told3 .given .1) _ _ _ (c .before .before .before .pre)))
+    (λ c κs. search needs) (λ c. search needs)
+    (λ c. omega (arith, size-as _ table.Dcm (c .enum-told4 .given .1) _ _ _ (c .before .before .before .pre)))
+    (λ c κs. search needs)
     (λ c. past-as _ table.Cds (c .before .enum-told .given .1) _ _ _ _ (c .past-counted .ensures))
     (λ c. past-as _ table.Mms (c .before .enum-told2 .given .1) _ _ _ _ (c .past-counted2 .ensures))
     (λ c. past-as _ table.Vcm (c .before .enum-told3 .given .1) _ _ _ _ (c .past-counted3 .ensures))

@@ -9,32 +9,17 @@ use Rattle.section.proofs.Whole.{ask-refused, read-long, ask-listed, as
 use Rattle.section.proofs.ask_descriptor.Statement.{statement}
 use Rattle.section.proofs.ask_descriptor.Tie as tie
 
-sub-first-of : tie.Need-sub-first-of
-sub-first-of c = let l = read-long _ _ (sym (c .before .read2 .given .1) ∙ c .before .before .before .read-section .ensures .0) in omega arith
-
-slice-aggregate-first-of : tie.Need-slice-aggregate-first-of
-slice-aggregate-first-of c = sym (length-take-le _ _ (omega arith))
-
-first-of-requires : tie.Need-first-of-requires
-unfolding withoutCrc
-first-of-requires c κs = ask-listed _ _ (sym (c .before .before .read2 .given .1) ∙ c .before .before .before .before .read-section .ensures .0)
-
-returns : tie.Need-returns
-returns c = ask-told _ _ (ask-refused _ _ _ (sym (c .before .read .given .1) ∙ c .before .before .before .read-section .ensures .0))
-
 returns-2 : tie.Need-returns-2
 unfolding withoutCrc
-returns-2 c = ask-told _ _ (c .first-of .ensures ∙ ask-first _ _ (sym (c .before .before .before .read2 .given .1) ∙ c .before .before .before .before .before .read-section .ensures .0) _)
+returns-2 c =
+    ask-told _ _ (c .first-of .ensures ∙ ask-first _ _
+    (sym (c .before .before .before .read2 .given .1) ∙ c .before .before .before .before .before .read-section .ensures .0) _)
 
 pub ask-descriptor-spec : {M : Type 1} → statement M
-ask-descriptor-spec =
-    tie.close
-    (tie.spec
-    (λ c κs. search needs)
-    (λ c. search needs)
-    (λ c. search needs)
-    sub-first-of
-    slice-aggregate-first-of
-    first-of-requires
-    returns
+unfolding withoutCrc
+ask-descriptor-spec = tie.close (tie.spec (λ c κs. search needs) (λ c. search needs) (λ c. search needs)
+    (λ c. let l = read-long _ _ (sym (c .before .read2 .given .1) ∙ c .before .before .before .read-section .ensures .0) in omega arith)
+    (λ c. sym (length-take-le _ _ (omega arith)))
+    (λ c κs. ask-listed _ _ (sym (c .before .before .read2 .given .1) ∙ c .before .before .before .before .read-section .ensures .0))
+    (λ c. ask-told _ _ (ask-refused _ _ _ (sym (c .before .read .given .1) ∙ c .before .before .before .read-section .ensures .0)))
     returns-2)

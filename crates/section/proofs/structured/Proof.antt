@@ -2,16 +2,13 @@
 use native.Mathlib.Omega.{arith}
 use mathlib.Core.Path.{sym, _∙_}
 use borrow.Author.Needs.{needs}
-use Rattle.fields.proofs.Laws.{at-in, at-got, at-no}
-use Rattle.fields.proofs.Outlines.{no-area, an-area}
+use Rattle.fields.proofs.{Laws.at-in, Laws.at-got, Laws.at-no, Outlines.no-area, Outlines.an-area}
 use Rattle.section.proofs.Whole.{shown-no, unfronted, unread, unclosed, read-right}
 use Rattle.section.proofs.structured.Statement.{statement}
 use Rattle.section.proofs.structured.Tie as tie
 
 pub structured-spec : {M : Type 1} → statement M
-structured-spec =
-    tie.close
-    (tie.spec (λ c κs. search needs) (λ c. search needs) (λ c. search needs)
+structured-spec = tie.close (tie.spec (λ c κs. search needs) (λ c. search needs) (λ c. search needs)
     (λ c κs. an-area _ _ (omega arith) (c .before .before .before .outline-of .ensures) (c .before .outlined2 .given .1) .within)
     (λ c. search needs) (λ c. search needs) (λ c κs. search needs) (λ c. search needs) (λ c. search needs)
     (λ c. shown-no _ _ _ (unfronted _ _ _ (no-area _ _ (omega arith) (c .before .before .before .outline-of .ensures) (c .before .outlined .given .1))))

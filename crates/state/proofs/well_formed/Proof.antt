@@ -1,21 +1,10 @@
 -- The first table that is not well formed decides; where the others are, the last one does.
-use borrow.Author.Needs.{needs}
-use borrow.Author.Tests.{not-false}
+use borrow.Author.{Needs.needs, Tests.not-false}
 use Rattle.rules.specs.Holding.{wellFormed}
 use Rattle.rules.specs.declared.Table.the-variants.{Cds, Mms, Vcm}
 use Rattle.state.proofs.Laws.{and-true, bad-table}
 use Rattle.state.proofs.well_formed.Statement.{statement}
 use Rattle.state.proofs.well_formed.Tie as tie
-
-returns : tie.Need-returns
-returns c = bad-table _ Cds (c .before .before .limit-of .ensures .0) (c .before .is-formed .ensures) (c .if1 .taken)
-
-returns-2 : tie.Need-returns-2
-returns-2 c = bad-table _ Mms (c .before .before .before .before .limit-of .ensures .0) (c .before .is-formed2 .ensures) (c .if2 .taken)
-
-returns-3 : tie.Need-returns-3
-returns-3 c =
-    bad-table _ Vcm (c .before .before .before .before .before .before .limit-of .ensures .0) (c .before .is-formed3 .ensures) (c .if3 .taken)
 
 returns-4 : tie.Need-returns-4
 unfolding wellFormed
@@ -36,15 +25,10 @@ returns-4 c =
     )
 
 pub well-formed-spec : {M : Type 1} → statement M
-well-formed-spec =
-    tie.close
-    (tie.spec
+well-formed-spec = tie.close (tie.spec (λ c κs. search needs) (λ c κs. search needs)
+    (λ c. bad-table _ Cds (c .before .before .limit-of .ensures .0) (c .before .is-formed .ensures) (c .if1 .taken))
     (λ c κs. search needs)
+    (λ c. bad-table _ Mms (c .before .before .before .before .limit-of .ensures .0) (c .before .is-formed2 .ensures) (c .if2 .taken))
     (λ c κs. search needs)
-    returns
-    (λ c κs. search needs)
-    returns-2
-    (λ c κs. search needs)
-    returns-3
-    (λ c κs. search needs)
-    returns-4)
+    (λ c. bad-table _ Vcm (c .before .before .before .before .before .before .limit-of .ensures .0) (c .before .is-formed3 .ensures) (c .if3 .taken))
+    (λ c κs. search needs) returns-4)

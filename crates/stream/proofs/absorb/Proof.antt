@@ -44,14 +44,6 @@ returns c =
     )
 
 pub absorb-spec : {M : Type 1} → statement M
-absorb-spec =
-    tie.close
-    (tie.spec
-    (λ c. search needs)
-    (λ c. search needs)
+absorb-spec = tie.close (tie.spec (λ c. search needs) (λ c. search needs)
     (λ c. sym (length-take-le _ _ (c .before .before .before .before .pre .1)))
-    feed-requires
-    keep-requires
-    (λ c. search needs)
-    (λ c. search needs)
-    returns)
+    feed-requires keep-requires (λ c. search needs) (λ c. search needs) returns)

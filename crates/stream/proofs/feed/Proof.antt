@@ -1,8 +1,7 @@
 -- Each turn offers the next whole section, so what is left to do stays the same; where none is left, it is done.
 use native.Mathlib.Omega.{arith}
 use mathlib.Core.Path.{sym, ap}
-use lib.ListN.{length}
-use lib.Seq.{length-take-le}
+use lib.{ListN.length, Seq.length-take-le}
 use denote.Ref.{now}
 use borrow.Author.Needs.{needs}
 use Rattle.rules.proofs.Places.{from-length}
@@ -42,7 +41,8 @@ loop-again c =
     let n = c .before .before .before .before .before .before .length-of in
     let l = c .before .before .before .before .before .before .before .before .before .loop in
     let piece = now (c .before .before .before .before .before .before .before .before .before .before .before .before .args .piece) in
-    going-on (l .inv) _ (rest-is piece (l .used)) (c .before .before .before .before .before .before .before .before .loop-test .taken) _ (n .ensures .0) (c .before .before .before .before .before .if1 .left) _ _ (o .ensures .0) (o .ensures .1) (o .kept .1 .0)
+    going-on (l .inv) _ (rest-is piece (l .used)) (c .before .before .before .before .before .before .before .before .loop-test .taken) _ (n .ensures .0)
+    (c .before .before .before .before .before .if1 .left) _ _ (o .ensures .0) (o .ensures .1) (o .kept .1 .0)
 
 returns-2 : tie.Need-returns-2 Inv-loop μ-loop
 returns-2 c =
@@ -55,25 +55,10 @@ returns-2 c =
     )
 
 pub feed-spec : {M : Type 1} → statement M
-feed-spec =
-    tie.close
-    (tie.spec
-    Inv-loop
-    μ-loop
+feed-spec = tie.close (tie.spec Inv-loop μ-loop
     (λ c. going (c .before .before .args .t) (now (c .before .before .args .store)) (now (c .before .before .args .piece)))
-    (λ c. c .before .loop .inv .within)
-    (λ c. search needs)
-    (λ c. search needs)
-    (λ c κs. search needs)
-    (λ c. search needs)
-    (λ c. search needs)
+    (λ c. c .before .loop .inv .within) (λ c. search needs) (λ c. search needs) (λ c κs. search needs) (λ c. search needs) (λ c. search needs)
     (λ c. c .before .before .before .before .loop .inv .same)
     returns
     (λ c. sym (length-take-le _ _ (c .before .before .if1 .left)))
-    offer-one-requires
-    (λ c. search needs)
-    (λ c. search needs)
-    (λ c. search needs)
-    loop-again
-    (λ c. c .before .loop .inv .same)
-    returns-2)
+    offer-one-requires (λ c. search needs) (λ c. search needs) (λ c. search needs) loop-again (λ c. c .before .loop .inv .same) returns-2)

@@ -15,7 +15,8 @@ abbrev μ-loop : tie.MeasureT-loop
 μ-loop buffer₀ used have n i₀ buffer i = n - i
 
 inside : tie.Need-slice-read-buffer Inv-loop μ-loop
-inside c = omega (arith, c .before .before .loop .inv .1 .same, c .before .loop-test .taken, c .before .before .before .pre .0, c .before .before .before .pre .1)
+inside c =
+    omega (arith, c .before .before .loop .inv .1 .same, c .before .loop-test .taken, c .before .before .before .pre .0, c .before .before .before .pre .1)
 
 loop-again : tie.Need-loop-again Inv-loop μ-loop
 loop-again c =
@@ -30,18 +31,8 @@ returns c =
     (refl, rw e at (moved (l .inv .1) (omega (arith, e, c .before .before .pre .0, c .before .before .pre .1))))
 
 pub keep-spec : {M : Type 1} → statement M
-keep-spec =
-    tie.close
-    (tie.spec
-    Inv-loop
-    μ-loop
-    (λ c. search needs)
+keep-spec = tie.close (tie.spec Inv-loop μ-loop (λ c. search needs)
     (λ c. (omega arith, move (now (c .args .buffer)) (c .args .used)))
-    (λ c. search needs)
-    inside
+    (λ c. search needs) inside
     (λ c. omega (arith, c .before .before .loop .inv .1 .same, c .before .loop-test .taken, c .before .before .before .pre .0, c .before .before .before .pre .1))
-    (λ c. search needs)
-    (λ c. search needs)
-    loop-again
-    (λ c. c .before .loop .inv .1 .same)
-    returns)
+    (λ c. search needs) (λ c. search needs) loop-again (λ c. c .before .loop .inv .1 .same) returns)

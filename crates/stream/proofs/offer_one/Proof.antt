@@ -7,7 +7,8 @@ use Rattle.stream.proofs.offer_one.Statement.{statement}
 use Rattle.stream.proofs.offer_one.Tie as tie
 
 add-refused : tie.Need-add-t11
-add-refused c = omega (arith, c .before .before .refusals-of .ensures .1, c .before .before .before .before .before .before .before .before .before .before .pre .refused)
+add-refused c =
+    omega (arith, c .before .before .refusals-of .ensures .1, c .before .before .before .before .before .before .before .before .before .before .pre .refused)
 
 returns : tie.Need-returns
 returns c =
@@ -19,12 +20,4 @@ returns c =
     )
 
 pub offer-one-spec : {M : Type 1} → statement M
-offer-one-spec =
-    tie.close
-    (tie.spec
-    (λ c κs. search needs)
-    (λ c κs. search needs)
-    (λ c. search needs)
-    add-refused
-    (λ c. search needs)
-    returns)
+offer-one-spec = tie.close (tie.spec (λ c κs. search needs) (λ c κs. search needs) (λ c. search needs) add-refused (λ c. search needs) returns)

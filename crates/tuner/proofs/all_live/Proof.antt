@@ -7,21 +7,14 @@ use Rattle.tuner.proofs.Laws.{one-not-live}
 use Rattle.tuner.proofs.all_live.Statement.{statement}
 use Rattle.tuner.proofs.all_live.Tie as tie
 
-returns : tie.Need-returns
-returns c = one-not-live _ Cds refl (c .if1 .taken)
-
-returns-2 : tie.Need-returns-2
-returns-2 c = one-not-live _ Mms refl (c .if2 .taken)
-
-returns-3 : tie.Need-returns-3
-returns-3 c = one-not-live _ Vcm refl (c .if3 .taken)
-
-returns-4 : tie.Need-returns-4
-returns-4 c = one-not-live _ Dcm refl (c .if4 .taken)
-
 returns-5 : tie.Need-returns-5
 unfolding allLive tableLive
 returns-5 c = simp (eq-eqb _ _ (c .if4 .left), eq-eqb _ _ (c .before .before .if3 .left), eq-eqb _ _ (c .before .before .before .before .if2 .left), eq-eqb _ _ (c .before .before .before .before .before .before .if1 .left))
 
 pub all-live-spec : {M : Type 1} → statement M
-all-live-spec = tie.close (tie.spec returns returns-2 returns-3 returns-4 returns-5)
+all-live-spec = tie.close (tie.spec
+    (λ c. one-not-live _ Cds refl (c .if1 .taken))
+    (λ c. one-not-live _ Mms refl (c .if2 .taken))
+    (λ c. one-not-live _ Vcm refl (c .if3 .taken))
+    (λ c. one-not-live _ Dcm refl (c .if4 .taken))
+    returns-5)

@@ -1,22 +1,12 @@
 -- The first table that does not read right decides; where the others do, the last one does.
 use mathlib.Core.Path.{refl}
-use borrow.Author.Needs.{needs}
-use borrow.Author.Tests.{not-false}
-use Rattle.rules.specs.declared.Table.the-variants.{Cds, Mms, Vcm, Dcm}
+use borrow.Author.{Needs.needs, Tests.not-false}
+use Rattle.rules.specs.declared.Table.the-variants.{Cds, Mms, Vcm}
 use Rattle.rules.specs.Tuning.{allRead}
 use Rattle.state.proofs.Laws.{and-true}
 use Rattle.tuner.proofs.Laws.{one-unread}
 use Rattle.tuner.proofs.all_read.Statement.{statement}
 use Rattle.tuner.proofs.all_read.Tie as tie
-
-returns : tie.Need-returns
-returns c = one-unread _ _ Cds refl (c .before .table-reads .ensures) (c .if1 .taken)
-
-returns-2 : tie.Need-returns-2
-returns-2 c = one-unread _ _ Mms refl (c .before .table-reads2 .ensures) (c .if2 .taken)
-
-returns-3 : tie.Need-returns-3
-returns-3 c = one-unread _ _ Vcm refl (c .before .table-reads3 .ensures) (c .if3 .taken)
 
 returns-4 : tie.Need-returns-4
 unfolding allRead
@@ -36,14 +26,10 @@ returns-4 c =
     )
 
 pub all-read-spec : {M : Type 1} → statement M
-all-read-spec =
-    tie.close
-    (tie.spec
+all-read-spec = tie.close (tie.spec (λ c κs. search needs)
+    (λ c. one-unread _ _ Cds refl (c .before .table-reads .ensures) (c .if1 .taken))
     (λ c κs. search needs)
-    returns
+    (λ c. one-unread _ _ Mms refl (c .before .table-reads2 .ensures) (c .if2 .taken))
     (λ c κs. search needs)
-    returns-2
-    (λ c κs. search needs)
-    returns-3
-    (λ c κs. search needs)
-    returns-4)
+    (λ c. one-unread _ _ Vcm refl (c .before .table-reads3 .ensures) (c .if3 .taken))
+    (λ c κs. search needs) returns-4)

@@ -4,13 +4,6 @@ use borrow.Author.Needs.{needs}
 use Rattle.tuner.proofs.application.Statement.{statement}
 use Rattle.tuner.proofs.application.Tie as tie
 
-returns : tie.Need-returns
-unfolding applicationOf
-returns c = rw (c .hidden .ensures)
-
 pub application-spec : {M : Type 1} → statement M
-application-spec =
-    tie.close
-    (tie.spec
-    (λ c κs. search needs)
-    returns)
+unfolding applicationOf
+application-spec = tie.close (tie.spec (λ c κs. search needs) (λ c. rw (c .hidden .ensures)))

@@ -11,9 +11,9 @@ use Rattle.tuner.proofs.find_channel.Tie as tie
 
 pub find-channel-spec : {M : Type 1} → statement M
 unfolding plant
-find-channel-spec =
-    tie.close
-    (tie.spec (λ c κs. let f = c .before .before in (searchable (f .args .s) (now (f .args .store)) (f .pre .0) Vcm refl, f .pre .1))
+find-channel-spec = tie.close (tie.spec
+    (λ c κs. let f = c .before .before in (searchable (f .args .s) (now (f .args .store)) (f .pre .0) Vcm refl, f .pre .1))
     (λ c κs. search needs)
     (λ c. let f = c .before .before .before .before in
-    c .channel-at .ensures ∙ ap channelFound (found-by (f .args .s) (now (f .args .store)) (f .pre .0) Vcm refl (f .args .number) (c .before .entry-of .ensures))))
+    c .channel-at .ensures ∙ ap channelFound (found-by (f .args .s) (now (f .args .store)) (f .pre .0) Vcm refl (f .args .number)
+    (c .before .entry-of .ensures))))

@@ -1,15 +1,13 @@
 -- 14, then 17, 18, and what the channel's record is tuned to.
 use mathlib.Core.Path.{sym, _∙_}
 use borrow.Author.Needs.{needs}
-use Rattle.tuner.proofs.Laws.{too-high, looked-up}
-use Rattle.tuner.proofs.Stages.{not-defined, channel-missing, channel-there}
+use Rattle.tuner.proofs.{Laws.too-high, Laws.looked-up, Stages.not-defined, Stages.channel-missing, Stages.channel-there}
 use Rattle.tuner.proofs.look_up.Statement.{statement}
 use Rattle.tuner.proofs.look_up.Tie as tie
 
 pub look-up-spec : {M : Type 1} → statement M
-look-up-spec =
-    tie.close
-    (tie.spec (λ c. too-high _ _ _ (c .before .before .before .before .before .before .pre .0) (c .if1 .taken))
+look-up-spec = tie.close (tie.spec
+    (λ c. too-high _ _ _ (c .before .before .before .before .before .before .pre .0) (c .if1 .taken))
     (λ c κs. let q = c .before .before .before .before .before .before .pre in (q .0, q .1 .ranges-listed))
     (λ c κs. let q = c .before .before .before .before .before .before .before .before .pre in (q .0, q .1 .channels-listed))
     (λ c. search needs) (λ c. search needs)
@@ -20,7 +18,9 @@ look-up-spec =
     ∙ looked-up _ _ _ (d .before .before .before .before .before .before .before .pre .0) (d .before .if1 .left))
     (λ c. let f = c .before .before .before .before in
     let d = f .before .before in
-    c .tune-channel .ensures ∙ channel-there _ _ (sym (d .is-defined .ensures) ∙ f .before .if2 .taken) _ (sym (c .before .before .found .given .1) ∙ f .find-channel .ensures)
+    c .tune-channel .ensures ∙ channel-there _ _ (sym (d .is-defined .ensures) ∙ f .before .if2 .taken) _
+    (sym (c .before .before .found .given .1) ∙ f .find-channel .ensures)
     ∙ looked-up _ _ _ (d .before .before .before .before .before .before .before .pre .0) (d .before .if1 .left))
     (λ c. let d = c .before in
-    not-defined _ _ (sym (d .is-defined .ensures) ∙ c .if2 .left) ∙ looked-up _ _ _ (d .before .before .before .before .before .before .before .pre .0) (d .before .if1 .left)))
+    not-defined _ _ (sym (d .is-defined .ensures) ∙ c .if2 .left)
+    ∙ looked-up _ _ _ (d .before .before .before .before .before .before .before .pre .0) (d .before .if1 .left)))

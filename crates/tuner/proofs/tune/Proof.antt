@@ -4,10 +4,8 @@ use native.Mathlib.Omega.{arith}
 use mathlib.Core.Path.{_≡_, refl, sym, _∙_}
 use mathlib.Core.List.{List}
 use lib.ListN.{length}
-use denote.Ref.{now}
 use borrow.Author.Needs.{needs}
-use Rattle.rules.specs.declared.Table.{Table}
-use Rattle.rules.specs.declared.State.{State}
+use Rattle.rules.specs.{declared.Table.Table, declared.State.State}
 use Rattle.rules.proofs.Told.{tune-told}
 use Rattle.search.specs.Listing.{Lists}
 use Rattle.tuner.proofs.Laws.{refused-early, refused-high, refused-late}
@@ -18,9 +16,7 @@ none-listed : (s : State) (store : List ℕ) (t : Table) (entries : List ℕ) �
 none-listed s store t entries e = record { is = λ n h. absurd (omega (arith, h, e)) }
 
 pub tune-spec : {M : Type 1} → statement M
-tune-spec =
-    tie.close
-    (tie.spec (λ c κs. search needs) (λ c. search needs) (λ c. search needs) (λ c. search needs) (λ c. search needs)
+tune-spec = tie.close (tie.spec (λ c κs. search needs) (λ c. search needs) (λ c. search needs) (λ c. search needs) (λ c. search needs)
     (λ c κs. let f = c .before .before .before .before in (
       sym (f .before .check .ensures) ∙ f .if1 .taken,
       record { ranges-listed = none-listed _ _ _ _ refl; channels-listed = none-listed _ _ _ _ refl; carriers-listed = none-listed _ _ _ _ refl; modes-listed = none-listed _ _ _ _ refl },
@@ -28,4 +24,5 @@ tune-spec =
     (λ c. tune-told _ _ _ (c .look-up .ensures))
     (λ c. tune-told _ _ _ (refused-early _ _ _ _ (c .before .before .check .ensures) (c .before .if1 .left) (c .if2 .taken)))
     (λ c. tune-told _ _ _ (refused-high _ _ _ _ (c .before .before .before .check .ensures) (c .before .if2 .left) (c .if3 .taken)))
-    (λ c. tune-told _ _ _ (refused-late _ _ _ _ (c .before .before .before .check .ensures) (c .before .before .if1 .left) (c .before .if2 .left) (c .if3 .left))))
+    (λ c. tune-told _ _ _ (refused-late _ _ _ _ (c .before .before .before .check .ensures) (c .before .before .if1 .left) (c .before .if2 .left)
+    (c .if3 .left))))

@@ -6,10 +6,8 @@ use Rattle.tuner.proofs.tune_carrier.Statement.{statement}
 use Rattle.tuner.proofs.tune_carrier.Tie as tie
 
 pub tune-carrier-spec : {M : Type 1} → statement M
-tune-carrier-spec =
-    tie.close
-    (tie.spec (λ c. carrier-zero _ _ (c .if1 .taken))
-    (λ c κs. search needs) (λ c. search needs) (λ c. search needs) (λ c κs. search needs)
+tune-carrier-spec = tie.close (tie.spec (λ c. carrier-zero _ _ (c .if1 .taken)) (λ c κs. search needs) (λ c. search needs) (λ c. search needs)
+    (λ c κs. search needs)
     (λ c. let f = c .before .before in carrier-missing _ _ (f .before .if1 .left) (sym (c .enum-told .given .1) ∙ f .find-carrier .ensures))
     (λ c. let f = c .before .before in
     let k = f .before .before in

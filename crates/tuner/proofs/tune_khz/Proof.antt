@@ -8,9 +8,7 @@ use Rattle.tuner.proofs.tune_khz.Tie as tie
 
 pub tune-khz-spec : {M : Type 1} → statement M
 unfolding tuneSignal
-tune-khz-spec =
-    tie.close
-    (tie.spec (λ c κs. search needs) (λ c. search needs) (λ c κs. search needs) (λ c. search needs) (λ c κs. search needs)
+tune-khz-spec = tie.close (tie.spec (λ c κs. search needs) (λ c. search needs) (λ c κs. search needs) (λ c. search needs) (λ c κs. search needs)
     (λ c. let f = c .before .before in
     let r = f .before .before in
     c .tune-digital .ensures ∙ ap (tuneSignal _ _ _) (sym (f .signal .given .1)) ∙ within-reach _ _ _ (sym (r .before .in-reach .ensures) ∙ r .if1 .taken))

@@ -1,8 +1,7 @@
 -- The tests are made in the order 8, 9, 10; then what is left is what the descriptors leave, if they are included.
 use native.Mathlib.Omega.{arith}
 use denote.Ref.{now}
-use borrow.Author.Needs.{needs}
-use borrow.Author.Tests.{eq-eqb, ne-eqb}
+use borrow.Author.{Needs.needs, Tests.eq-eqb, Tests.ne-eqb}
 use Rattle.rules.specs.Tables.{vcm, channelFair}
 use Rattle.fields.proofs.Laws.{part-whole, too-short, long-enough, stands-at, counted-not, taken-short, taken-zeros, taken-unfair, taken-here, step-no, step-so}
 use Rattle.vcm.proofs.channel_step.Statement.{statement}
@@ -13,12 +12,6 @@ unfolding vcm
 returns c = λ index.
     let l = vcm (c .before .before .before .args .included) in
     step-no l _ _ index _ (taken-short (l .block) _ _ _ (omega (arith, too-short _ _ _ (c .before .short .ensures) (c .if1 .taken))))
-
-add-r : tie.Need-add-r
-add-r c = omega (arith, long-enough _ _ _ (c .before .short .ensures) (c .if1 .left))
-
-part-r-end : tie.Need-part-r-end
-part-r-end c = omega (arith, long-enough _ _ _ (c .before .short .ensures) (c .if1 .left))
 
 add-past-counted : tie.Need-add-past-counted
 add-past-counted c =
@@ -73,21 +66,8 @@ returns-5 c = λ index.
     step-no l _ _ index _ (taken-zeros (l .block) _ _ _ (omega (arith, h)) (cc))
 
 pub channel-step-spec : {M : Type 1} → statement M
-channel-step-spec =
-    tie.close
-    (tie.spec
-    (λ c κs. search needs)
-    returns
-    add-r
-    (λ c. search needs)
-    (λ c. search needs)
-    part-r-end
-    (λ c κs. search needs)
-    (λ c κs. search needs)
-    add-past-counted
-    (λ c κs. search needs)
-    returns-2
-    add-behind
-    returns-3
-    returns-4
-    returns-5)
+channel-step-spec = tie.close (tie.spec (λ c κs. search needs) returns
+    (λ c. omega (arith, long-enough _ _ _ (c .before .short .ensures) (c .if1 .left)))
+    (λ c. search needs) (λ c. search needs)
+    (λ c. omega (arith, long-enough _ _ _ (c .before .short .ensures) (c .if1 .left)))
+    (λ c κs. search needs) (λ c κs. search needs) add-past-counted (λ c κs. search needs) returns-2 add-behind returns-3 returns-4 returns-5)

@@ -3,8 +3,7 @@ use Prim.Native.Nat.{_/_, _%_}
 use native.Mathlib.Omega.{arith}
 use mathlib.Core.Path.{sym, _∙_}
 use denote.Ref.{now}
-use borrow.Author.Needs.{needs}
-use borrow.Author.Tests.{eq-eqb, le-leb}
+use borrow.Author.{Needs.needs, Tests.eq-eqb, Tests.le-leb}
 use Rattle.rules.specs.Bytes.{byte}
 use Rattle.rules.specs.Tables.{transportOf, signalOf, channelOf, channelZeros, standardFair, channelFair}
 use Rattle.rules.proofs.Taken.{differ}
@@ -24,20 +23,8 @@ returns-4 c = λ e.
       le-leb (byte 2 r % 16) 1 (omega (arith, flags, c .before .if3 .left)),
     )
 
-returns-5 : tie.Need-returns-5
-returns-5 c = λ e. rw (← c .before .before .channel-zeros .ensures, c .before .if5 .taken, ← c .channel-fair .ensures, e)
-
 pub is-right-spec : {M : Type 1} → statement M
-is-right-spec =
-    tie.close
-    (tie.spec
-    (λ c κs. search needs)
-    (λ c κs. search needs)
-    (λ c. λ e. absurd (differ (sym e)))
-    (λ c. λ e. absurd (differ (sym e)))
-    (λ c. λ e. absurd (differ (sym e)))
-    returns-4
-    (λ c κs. search needs)
-    (λ c κs. search needs)
-    returns-5
+is-right-spec = tie.close (tie.spec (λ c κs. search needs) (λ c κs. search needs) (λ c. λ e. absurd (differ (sym e))) (λ c. λ e. absurd (differ (sym e)))
+    (λ c. λ e. absurd (differ (sym e))) returns-4 (λ c κs. search needs) (λ c κs. search needs)
+    (λ c. λ e. rw (← c .before .before .channel-zeros .ensures, c .before .if5 .taken, ← c .channel-fair .ensures, e))
     (λ c. λ e. absurd (differ (sym e ∙ c .if5 .left))))

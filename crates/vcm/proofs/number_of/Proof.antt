@@ -4,18 +4,7 @@ use borrow.Author.Needs.{needs}
 use Rattle.vcm.proofs.number_of.Statement.{statement}
 use Rattle.vcm.proofs.number_of.Tie as tie
 
-returns : tie.Need-returns
-unfolding channelOf
-returns c = cc
-
 pub number-of-spec : {M : Type 1} → statement M
-number-of-spec =
-    tie.close
-    (tie.spec
-    (λ c κs. search needs)
-    (λ c κs. search needs)
-    (λ c. search needs)
-    (λ c. search needs)
-    (λ c. search needs)
-    (λ c. search needs)
-    returns)
+unfolding channelOf
+number-of-spec = tie.close (tie.spec (λ c κs. search needs) (λ c κs. search needs) (λ c. search needs) (λ c. search needs) (λ c. search needs)
+    (λ c. search needs) (λ c. cc))

@@ -9,12 +9,10 @@ use Rattle.vcm.proofs.past_channels.Statement.{statement}
 use Rattle.vcm.proofs.past_channels.Tie as tie
 
 pub past-channels-spec : {M : Type 1} → statement M
-past-channels-spec =
-    tie.close
-    (tie.spec (λ b o at₀ left₀ at left. Reaches (vcm (o .included)) b (o .at) (o .first) (o .count) at (o .first) left) (λ b o at₀ left₀ at left. left)
-    (λ c κs. search needs)
-    (λ c. c .skim .ensures)
-    (λ c κs. search needs) (λ c. search needs) (λ c. search needs) (λ c. search needs)
+past-channels-spec = tie.close (tie.spec
+    (λ b o at₀ left₀ at left. Reaches (vcm (o .included)) b (o .at) (o .first) (o .count) at (o .first) left)
+    (λ b o at₀ left₀ at left. left) (λ c κs. search needs) (λ c. c .skim .ensures) (λ c κs. search needs) (λ c. search needs) (λ c. search needs)
+    (λ c. search needs)
     (λ c. let f = c .before .before .before in
     onward _ _ _ (f .channel-step .ensures _) (c .before .next .given .1) (f .before .before .loop .inv) (f .before .loop-test .taken))
     (λ c. search needs)

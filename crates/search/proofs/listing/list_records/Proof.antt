@@ -1,7 +1,6 @@
 -- At both loops each number's entry, or else the one from here on, is the entry of the first match of all.
 use Prim.Native.Nat.{ℕ, _+_, _-_, _*_, _≤_}
-use native.Mathlib.Omega.{arith}
-use native.Mathlib.Nat.{sub-zero}
+use native.Mathlib.{Omega.arith, Nat.sub-zero}
 use mathlib.Core.Path.{_≡_, refl, ap, _∙_}
 use mathlib.Core.Logic.{⊎-elim}
 use lib.ListN.{length}
@@ -9,20 +8,18 @@ use denote.Ref.{now}
 use borrow.Author.Needs.{needs}
 use Rattle.fields.proofs.Laws.{at-got, at-no}
 use Rattle.search.specs.Entries.{outlineIn}
-use Rattle.search.proofs.Sections.{one-of, behind-all, live-place}
-use Rattle.search.proofs.Entries.{fits, small, never}
+use Rattle.search.proofs.{Sections.one-of, Sections.behind-all, Sections.live-place, Entries.fits, Entries.small, Entries.never}
 use Rattle.search.proofs.Listed.{Before, Within, begin, enter, leave, lists, list-on}
 use Rattle.search.proofs.listing.list_records.Statement.{statement}
 use Rattle.search.proofs.listing.list_records.Tie as tie
 
 pub list-records-spec : {M : Type 1} → statement M
-list-records-spec =
-    tie.close
-    (tie.spec
+list-records-spec = tie.close (tie.spec
     (λ s store t entries₀ h sections i start b walk at₀ index₀ k₀ k-end entries at index k.
     (length entries ≡ length entries₀) × ((x : ℕ) → Within s store t entries (walk .included) start i (k-end - k) index b at x) × (index ≤ 65535 + 255 * k))
     (λ s store t entries₀ h sections i start b walk at₀ index₀ k₀ k-end entries at index k. k-end - k)
-    (λ s store t entries₀ h sections i₀ entries i. (length entries ≡ length entries₀) × ((x : ℕ) → Before s store t entries i x)) (λ s store t entries₀ h sections i₀ entries i. sections - i)
+    (λ s store t entries₀ h sections i₀ entries i. (length entries ≡ length entries₀) × ((x : ℕ) → Before s store t entries i x))
+    (λ s store t entries₀ h sections i₀ entries i. sections - i)
     (λ c κs. search needs) (λ c. search needs) (λ c. search needs)
     (λ c. (refl, begin _ _ _ _ (c .before .before .before .before .pre .1)))
     (λ c. search needs) (λ c κs. search needs) (λ c. search needs) (λ c κs. search needs) (λ c κs. search needs) (λ c κs. search needs) (λ c. search needs)
@@ -33,14 +30,17 @@ list-records-spec =
     let a = g .before .before .before in
     let e = g .holding-of .ensures in (
       refl,
-      (λ x. rw sub-zero (enter (a .args .s) (now (a .args .store)) (a .args .t) (l .loop .inv .1 x) (a .pre .0) (one-of _ _ _ e (p .before .loop-test .taken)) _ _ _ (o .before .before .live-bytes .ensures)
+      (λ x. rw sub-zero (enter (a .args .s) (now (a .args .store)) (a .args .t) (l .loop .inv .1 x) (a .pre .0)
+          (one-of _ _ _ e (p .before .loop-test .taken)) _ _ _ (o .before .before .live-bytes .ensures)
           (o .outline-in .ensures ∙ ap outlineIn (o .before .outline-of .ensures)) (p .place-of .ensures ∙ live-place _ _ _ e))),
       omega (arith, c .struct-known2 .given),
     ))
     (λ c κs. fits _ _ _ _ (c .before .loop2 .inv .1 0 .ahead) (omega arith))
     (λ c. search needs) (λ c. search needs)
-    (λ c. let w = c .before .before .before .before .before in omega (arith, small _ _ _ _ (w .before .loop2 .inv .1 0 .ahead) (omega (arith, w .loop2-test .taken))))
-    (λ c κs. let w = c .before .before .before .before .before in omega (arith, small _ _ _ _ (w .before .loop2 .inv .1 0 .ahead) (omega (arith, w .loop2-test .taken))))
+    (λ c. let w = c .before .before .before .before .before in
+    omega (arith, small _ _ _ _ (w .before .loop2 .inv .1 0 .ahead) (omega (arith, w .loop2-test .taken))))
+    (λ c κs. let w = c .before .before .before .before .before in
+    omega (arith, small _ _ _ _ (w .before .loop2 .inv .1 0 .ahead) (omega (arith, w .loop2-test .taken))))
     (λ c. search needs)
     (λ c. let w = c .before .before .before .before .before .before .before .before .before in omega (arith, w .loop2 .inv .2))
     (λ c. search needs) (λ c. search needs)

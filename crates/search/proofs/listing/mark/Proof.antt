@@ -14,9 +14,6 @@ Inv-loop entries₀ first count entry i₀ entries i = (i ≤ count) × Marked f
 abbrev μ-loop : tie.MeasureT-loop
 μ-loop entries₀ first count entry i₀ entries i = count - i
 
-loop-holds : tie.Need-loop-holds Inv-loop μ-loop
-loop-holds c = (omega arith, none-marked _ _ _)
-
 loop-again : tie.Need-loop-again Inv-loop μ-loop
 loop-again c =
     let l = c .before .before .before .before .before .loop in
@@ -30,17 +27,5 @@ returns c =
     rw (← e) (l .inv .1)
 
 pub mark-spec : {M : Type 1} → statement M
-mark-spec =
-    tie.close
-    (tie.spec
-    Inv-loop
-    μ-loop
-    loop-holds
-    (λ c. search needs)
-    (λ c. omega arith)
-    (λ c κs. search needs)
-    (λ c. search needs)
-    (λ c. search needs)
-    loop-again
-    (λ c. c .before .loop .inv .1 .long)
-    returns)
+mark-spec = tie.close (tie.spec Inv-loop μ-loop (λ c. (omega arith, none-marked _ _ _)) (λ c. search needs) (λ c. omega arith) (λ c κs. search needs)
+    (λ c. search needs) (λ c. search needs) loop-again (λ c. c .before .loop .inv .1 .long) returns)

@@ -6,24 +6,10 @@ use Rattle.search.proofs.Marks.{skipped, set-marked}
 use Rattle.search.proofs.listing.mark_one.Statement.{statement}
 use Rattle.search.proofs.listing.mark_one.Tie as tie
 
-returns : tie.Need-returns
-returns c = let a = c .before .args in skipped (now (a .entries)) (a .number) (a .entry) (λ h e. omega arith)
-
-returns-2 : tie.Need-returns-2
-returns-2 c = let a = c .before .before .before .args in skipped (now (a .entries)) (a .number) (a .entry) (λ h e. c .if2 .taken e)
-
-returns-3 : tie.Need-returns-3
-returns-3 c = let a = c .before .before .before .args in set-marked (now (a .entries)) (a .number) (a .entry) (omega arith) (c .if2 .left)
-
 pub mark-one-spec : {M : Type 1} → statement M
-mark-one-spec =
-    tie.close
-    (tie.spec
-    returns
-    (λ c. search needs)
-    (λ c. search needs)
-    returns-2
-    (λ c. search needs)
-    (λ c. search needs)
-    (λ c. search needs)
-    returns-3)
+mark-one-spec = tie.close (tie.spec
+    (λ c. let a = c .before .args in skipped (now (a .entries)) (a .number) (a .entry) (λ h e. omega arith))
+    (λ c. search needs) (λ c. search needs)
+    (λ c. let a = c .before .before .before .args in skipped (now (a .entries)) (a .number) (a .entry) (λ h e. c .if2 .taken e))
+    (λ c. search needs) (λ c. search needs) (λ c. search needs)
+    (λ c. let a = c .before .before .before .args in set-marked (now (a .entries)) (a .number) (a .entry) (omega arith) (c .if2 .left)))

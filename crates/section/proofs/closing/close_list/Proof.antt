@@ -17,23 +17,18 @@ Inv-loop b start at₀ seen₀ at seen = closedOf (from b start) ≡ closedWith 
 abbrev μ-loop : tie.MeasureT-loop
 μ-loop b start at₀ seen₀ at seen = length b - at
 
-loop-holds : tie.Need-loop-holds Inv-loop μ-loop
-loop-holds c = close-begin _ _
-
-add-seen-with : tie.Need-add-seen-with Inv-loop μ-loop
-add-seen-with c = let h = here _ _ _ (c .before .before .before .before .before .past-one .ensures) _ (c .before .before .before .next .given .1) in omega arith
-
 loop-less : tie.Need-loop-less Inv-loop μ-loop
-loop-less c = let h = here _ _ _ (c .before .before .before .before .before .before .before .past-one .ensures) _ (c .before .before .before .before .before .next .given .1) in omega arith
+loop-less c =
+    let h = here _ _ _ (c .before .before .before .before .before .before .before .past-one .ensures) _
+    (c .before .before .before .before .before .next .given .1) in omega arith
 
 loop-again : tie.Need-loop-again Inv-loop μ-loop
 unfolding byte
 loop-again c =
-    let h = here _ _ _ (c .before .before .before .before .before .before .before .past-one .ensures) _ (c .before .before .before .before .before .next .given .1) in
-    rw (c .seen-with .ensures, c .before .byte .ensures) (c .before .before .before .before .before .before .before .before .before .loop .inv ∙ close-seen _ _ _ _ h (c .before .before .if1 .taken))
-
-loop-less-2 : tie.Need-loop-less-2 Inv-loop μ-loop
-loop-less-2 c = let h = here _ _ _ (c .before .before .before .before .before .past-one .ensures) _ (c .before .before .before .next .given .1) in omega arith
+    let h =
+    here _ _ _ (c .before .before .before .before .before .before .before .past-one .ensures) _ (c .before .before .before .before .before .next .given .1) in
+    rw (c .seen-with .ensures, c .before .byte .ensures)
+    (c .before .before .before .before .before .before .before .before .before .loop .inv ∙ close-seen _ _ _ _ h (c .before .before .if1 .taken))
 
 loop-again-2 : tie.Need-loop-again-2 Inv-loop μ-loop
 unfolding byte
@@ -45,31 +40,13 @@ returns : tie.Need-returns Inv-loop μ-loop
 unfolding closedAs
 returns c =
     let k = c .before .before .before in
-    sym (ap closedAs (k .before .before .loop .inv ∙ close-no _ _ _ (k .before .loop-test .taken) _ (at-no _ _ _ (k .past-one .ensures) _ (c .before .next2 .given .1))))
-
-returns-2 : tie.Need-returns-2 Inv-loop μ-loop
-returns-2 c = c .judged .ensures ∙ ap closedAs (sym (c .before .before .loop .inv ∙ close-end _ _ _ (omega arith)))
+    sym (ap closedAs (k .before .before .loop .inv
+    ∙ close-no _ _ _ (k .before .loop-test .taken) _ (at-no _ _ _ (k .past-one .ensures) _ (c .before .next2 .given .1))))
 
 pub close-list-spec : {M : Type 1} → statement M
-close-list-spec =
-    tie.close
-    (tie.spec
-    Inv-loop
-    μ-loop
-    loop-holds
-    (λ c κs. search needs)
-    (λ c. search needs)
-    (λ c. omega arith)
-    add-seen-with
-    (λ c. omega arith)
-    (λ c κs. search needs)
-    (λ c. search needs)
-    (λ c κs. search needs)
-    loop-less
-    loop-again
-    loop-less-2
-    loop-again-2
-    (λ c. search needs)
-    returns
-    (λ c κs. search needs)
-    returns-2)
+close-list-spec = tie.close (tie.spec Inv-loop μ-loop (λ c. close-begin _ _) (λ c κs. search needs) (λ c. search needs) (λ c. omega arith)
+    (λ c. let h = here _ _ _ (c .before .before .before .before .before .past-one .ensures) _ (c .before .before .before .next .given .1) in omega arith)
+    (λ c. omega arith) (λ c κs. search needs) (λ c. search needs) (λ c κs. search needs) loop-less loop-again
+    (λ c. let h = here _ _ _ (c .before .before .before .before .before .past-one .ensures) _ (c .before .before .before .next .given .1) in omega arith)
+    loop-again-2 (λ c. search needs) returns (λ c κs. search needs)
+    (λ c. c .judged .ensures ∙ ap closedAs (sym (c .before .before .loop .inv ∙ close-end _ _ _ (omega arith)))))

@@ -5,27 +5,9 @@ use Rattle.section.specs.Closes.{closedAs, seenOf}
 use Rattle.section.proofs.closing.judged.Statement.{statement}
 use Rattle.section.proofs.closing.judged.Tie as tie
 
-returns : tie.Need-returns
-unfolding closedAs seenOf revision
-returns c = rw (c .enum-told .given .1)
-
-returns-2 : tie.Need-returns-2
-unfolding closedAs seenOf revision
-returns-2 c = rw (c .before .before .before .seen .given .1, ← c .before .part .ensures) (c .revised .ensures)
-
-returns-3 : tie.Need-returns-3
-unfolding closedAs seenOf revision
-returns-3 c = rw (c .enum-told2 .given .1)
-
 pub judged-spec : {M : Type 1} → statement M
-judged-spec =
-    tie.close
-    (tie.spec
-    (λ c. search needs)
-    (λ c. search needs)
-    (λ c κs. search needs)
-    (λ c κs. search needs)
-    (λ c. search needs)
-    returns
-    returns-2
-    returns-3)
+unfolding closedAs seenOf revision
+judged-spec = tie.close (tie.spec (λ c. search needs) (λ c. search needs) (λ c κs. search needs) (λ c κs. search needs) (λ c. search needs)
+    (λ c. rw (c .enum-told .given .1))
+    (λ c. rw (c .before .before .before .seen .given .1, ← c .before .part .ensures) (c .revised .ensures))
+    (λ c. rw (c .enum-told2 .given .1)))

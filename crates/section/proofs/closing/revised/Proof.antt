@@ -1,15 +1,9 @@
 -- Each test is a clause of refusal 11.
-use borrow.Author.Tests.{le-leb, lt-leb}
-use borrow.Author.Needs.{needs}
-use Rattle.rules.specs.Section.{revision}
-use Rattle.rules.specs.Bytes.{unless}
+use borrow.Author.{Tests.le-leb, Tests.lt-leb, Needs.needs}
+use Rattle.rules.specs.{Section.revision, Bytes.unless}
 use Rattle.section.specs.Closes.{closedAs}
 use Rattle.section.proofs.closing.revised.Statement.{statement}
 use Rattle.section.proofs.closing.revised.Tie as tie
-
-returns : tie.Need-returns
-unfolding closedAs revision unless
-returns c = simp (lt-leb _ _ (c .if1 .taken))
 
 returns-2 : tie.Need-returns-2
 unfolding closedAs revision unless
@@ -20,5 +14,6 @@ unfolding closedAs revision unless
 returns-3 c = simp (le-leb _ _ (c .if2 .left), ← c .before .byte3 .ensures, ← c .before .before .byte2 .ensures, ← c .before .before .before .byte .ensures, le-leb _ _ (c .before .before .before .before .if1 .left))
 
 pub revised-spec : {M : Type 1} → statement M
-revised-spec =
-    tie.close (tie.spec returns (λ c κs. search needs) (λ c κs. search needs) (λ c κs. search needs) returns-2 returns-3)
+unfolding closedAs revision unless
+revised-spec = tie.close (tie.spec (λ c. simp (lt-leb _ _ (c .if1 .taken))) (λ c κs. search needs) (λ c κs. search needs) (λ c κs. search needs) returns-2
+    returns-3)
