@@ -21,4 +21,5 @@ module _ {M : Type 1} (𝓤 : URA M) (H : Heap 𝓤) (A : Atoms 𝓤) (mem : Mem
 
   pub past_modes-determined : Determined 𝓤 {T = past_modes.ended} (past_modes.clauses 𝓤 H A mem run) (λ κs r e. r)
   past_modes-determined =
-      determined-once 𝓤 {T = past_modes.ended} (past_modes.clauses 𝓤 H A mem run) _ _ (λ κs a g r e. id⊢ 𝓤 _) (λ κs a g r r′ e e′ s t. stands-once _ r r′ _ s t)
+      determined-once 𝓤 {T = past_modes.ended} (past_modes.clauses 𝓤 H A mem run) _ _ (λ κs a g r e. id⊢ 𝓤 _)
+      (λ κs a g r r′ e e′ s t. stands-once _ r r′ _ s t)

@@ -44,7 +44,8 @@ module _ {M : Type 1} (𝓤 : URA M) (H : Heap 𝓤) (A : Atoms 𝓤) (mem : Mem
       (λ κs a g r e. both-say 𝓤 (id⊢ 𝓤 _) (both-say 𝓤 (id⊢ 𝓤 _) (id⊢ 𝓤 _)))
       (λ κs a g r q e f x y. lines-once _ _ _ _ r q _ (x .0) (x .1 .0) (y .0) (y .1 .0))
 
-  pub print-determined : Determined 𝓤 {T = print.ended} (print.clauses 𝓤 H A mem run) (λ κs r e. withLent r (withLent (now (e .1 .1 .0)) (now (e .1 .1 .1 .0))))
+  pub print-determined : Determined 𝓤 {T = print.ended} (print.clauses 𝓤 H A mem run)
+      (λ κs r e. withLent r (withLent (now (e .1 .1 .0)) (now (e .1 .1 .1 .0))))
   print-determined =
       determined-once 𝓤 {T = print.ended} (print.clauses 𝓤 H A mem run) _ _
       (λ κs a g r e. both-say 𝓤 (id⊢ 𝓤 _) (both-say 𝓤 (id⊢ 𝓤 _) (both-say 𝓤 (id⊢ 𝓤 _) (id⊢ 𝓤 _))))

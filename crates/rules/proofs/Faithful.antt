@@ -98,7 +98,8 @@ module _ {T S C : Type 0} (co : Collector T S C) where
       }
 
   -- nothing is live or held at the start, so there is nothing to be unfaithful to
-  pub faithful-fresh : (start : S) (store : List ℕ) → ((t : T) → holdingOf start t ≡ freshHolding) → FaithfulBox start (record { state = start; store = store })
+  pub faithful-fresh : (start : S) (store : List ℕ) → ((t : T) → holdingOf start t ≡ freshHolding)
+      → FaithfulBox start (record { state = start; store = store })
   unfolding freshHolding noneLive noneGathered
   faithful-fresh start store fresh = record { reads = λ x. refl; aside = λ c. refl; tables = λ t. rw (fresh t) (none t) }
     where

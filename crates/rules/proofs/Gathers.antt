@@ -26,7 +26,8 @@ module _ {T S C : Type 0} (co : Collector T S C) where
     -- condition 2: "A version of a table goes live at the section that completes it"
     pub live-completes : (b : BoxOf S) (section : List ℕ) (v : ℕ) → answerTo co b section ≡ Live v → NowLive co b section v
     pub complete-lives : (b : BoxOf S) (section : List ℕ) (c : C) → New co b section c
-        → ((k : ℕ) → k ≤ revisionOf c .last → NowHas (holdingOf (b .state) (tableOf c)) (revisionOf c) k) → answerTo co b section ≡ Live (revisionOf c .version)
+        → ((k : ℕ) → k ≤ revisionOf c .last → NowHas (holdingOf (b .state) (tableOf c)) (revisionOf c) k) → answerTo co b section
+        ≡ Live (revisionOf c .version)
     pub live-is-offered : (b : BoxOf S) (section : List ℕ) (v : ℕ) → answerTo co b section ≡ Live v → (c : C) → readFor (b .state) section ≡ right c
         → (n : ℕ) → n ≤ revisionOf c .last
         → sectionAt co (boxAfter co b section .store) (liveAt co (boxAfter co b section .state) (tableOf c) n)
@@ -59,7 +60,8 @@ module _ {T S C : Type 0} (co : Collector T S C) where
     -- growth changes nothing); nor does what stood in a fresh box's store matter
     pub same-run : {M : Type 0} (means : C → M) → Enough co means → (b : BoxOf S) {ss gs : List (List ℕ)} → Paired co means (b .state) ss gs
         → (answers co b gs ≡ answers co b ss) × (run co b gs .state ≡ run co b ss .state)
-    pub any-store : (start : S) (store other : List ℕ) → ((t : T) → holdingOf start t ≡ freshHolding) → length other ≡ length store → (sections : List (List ℕ))
+    pub any-store : (start : S) (store other : List ℕ) → ((t : T) → holdingOf start t ≡ freshHolding) → length other ≡ length store
+        → (sections : List (List ℕ))
         → (answers co (record { state = start; store = other }) sections ≡ answers co (record { state = start; store = store }) sections)
         × (run co (record { state = start; store = other }) sections .state ≡ run co (record { state = start; store = store }) sections .state)
 

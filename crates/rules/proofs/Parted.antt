@@ -37,7 +37,8 @@ byte-behind a b c l (suc (suc zero)) h = absurd (omega arith)
 byte-behind a b c l (suc (suc (suc i))) h = let e : suc (suc (suc i)) - 3 ≡ i = omega arith in rw e refl
 
 -- medium and subtype stand in the form's part
-medium-byte : (t : Table) (a b c : ℕ) (h rest : List ℕ) → Own (form t .header) h → byte (form t .medium) (a ∷ b ∷ c ∷ (h ++ rest)) ≡ byte (form t .medium - 3) h
+medium-byte : (t : Table) (a b c : ℕ) (h rest : List ℕ) → Own (form t .header) h
+    → byte (form t .medium) (a ∷ b ∷ c ∷ (h ++ rest)) ≡ byte (form t .medium - 3) h
 unfolding byte
 medium-byte t a b c h rest n =
     let k = formal t in
@@ -77,7 +78,8 @@ module _ (t : Table) (p : Parts) (s : Shaped (form t) p) where
   unfolding bytesOf headerBy headerOf giving byte from
   header-back k =
       let n = header-own (form t) (p .number) (p .flags) (p .low) _ (s .header) in
-      let long : form t .medium < length (bytesOf (form t) p) = omega (arith, formal t .high, s .header, length-append (p .header) (behindHeader (form t) p)) in
+      let long : form t .medium < length (bytesOf (form t) p) =
+      omega (arith, formal t .high, s .header, length-append (p .header) (behindHeader (form t) p)) in
       let z : (eqb (p .flags / 64) 0 && form t .header .zeros (p .header)) ≡ true = rw (eq-eqb (p .flags / 64) 0 (k .zeros)) (k .headerZeros) in
       header-so _ t (k .number) long (medium-byte t _ _ _ (p .header) (behindHeader (form t) p) (s .header) ∙ k .subtype)
       ∙ ap (giving (λ x. record { table = t; front = x }))
@@ -97,7 +99,8 @@ module _ (f : Form) (p : Parts) (s : Shaped f p) where
   rows-are : rowsOf (saidFront f p) tail ≡ giving (λ rs. record { front = saidFront f p; lists = f .says rs })
       (records (laidOut f p) (length (p .pieces)) (saidFront f p .first) tail)
   rows-are =
-      ap (λ (n : ℕ). giving (λ rs. record { front = saidFront f p; lists = f .says rs }) (records (laidOut f p) n (saidFront f p .first) tail)) (sym (s .count))
+      ap (λ (n : ℕ). giving (λ rs. record { front = saidFront f p; lists = f .says rs }) (records (laidOut f p) n (saidFront f p .first) tail))
+      (sym (s .count))
 
   structure-said : (x : Structure) (rest : List ℕ) → structure f (f .header .look (p .header)) (behindHeader f p) ≡ got x rest
       → (f .head .zeros (p .head) ≡ true) × (rest ≡ encoded (p .closing)) × (x ≡ said f p) × Fair f p

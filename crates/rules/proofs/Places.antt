@@ -128,7 +128,8 @@ ends-entry l index bs =
     (λ r rest. ends-giving rest (λ x. record { index = index; what = r }) (counted (l .described) rest) (ends-counted (l .described) rest))
 
 -- what a record leaves stands at a place of the bytes
-pub entry-place : {R : Type 0} (l : Layout R) (index : ℕ) (b : List ℕ) (at : ℕ) (r : Numbered R) (rest : List ℕ) → entry l index (from b at) ≡ got r rest → (place : ℕ) × (rest ≡ from b place)
+pub entry-place : {R : Type 0} (l : Layout R) (index : ℕ) (b : List ℕ) (at : ℕ) (r : Numbered R) (rest : List ℕ) → entry l index (from b at) ≡ got r rest
+    → (place : ℕ) × (rest ≡ from b place)
 entry-place {R} l index b at r rest e =
     suffix-trans rest (from b at) b (subst (λ (g : Got (Numbered R)). Ends g (from b at)) e (ends-entry l index (from b at))) (at, refl)
 
@@ -149,4 +150,5 @@ ends-structure f x bs =
 pub structure-place : (f : Form) (x : Front) (bs : List ℕ) (at : ℕ) (y : Structure) (tail : List ℕ) → structure f x (from bs at) ≡ got y tail
     → from bs (length bs - length tail) ≡ tail
 structure-place f x bs at y tail e =
-    suffix-place tail bs (suffix-trans tail (from bs at) bs (subst (λ (g : Got Structure). Ends g (from bs at)) e (ends-structure f x (from bs at))) (at, refl))
+    suffix-place tail bs (suffix-trans tail (from bs at) bs
+    (subst (λ (g : Got Structure). Ends g (from bs at)) e (ends-structure f x (from bs at))) (at, refl))

@@ -39,7 +39,8 @@ takes-span Dcm included index bs = refl
 
 -- ---- the two loops
 
-number-of : {R : Type 0} (b : Bool) (y : Standing R) (o : Option (Standing R)) → entryNumber (cond b (some y) o) ≡ cond b (entryNumber (some y)) (entryNumber o)
+number-of : {R : Type 0} (b : Bool) (y : Standing R) (o : Option (Standing R))
+    → entryNumber (cond b (some y) o) ≡ cond b (entryNumber (some y)) (entryNumber o)
 number-of true y o = refl
 number-of false y o = refl
 

@@ -25,7 +25,10 @@ no-entry t store entry e = rw e
 
 pub an-entry : (t : Table) (store : List ℕ) (entry : ℕ) → (entry ≡ 0 → ⊥)
     → recordNamed t store entry
-    ≡ some (record { index = (entry - 1) / 2 ^ 32; what = layoutOf t 0 .block .look (take (extent (layoutOf t 0 .block) (from store ((entry - 1) % 2 ^ 32))) (from store ((entry - 1) % 2 ^ 32))) })
+    ≡ some (record {
+      index = (entry - 1) / 2 ^ 32;
+      what = layoutOf t 0 .block .look (take (extent (layoutOf t 0 .block) (from store ((entry - 1) % 2 ^ 32))) (from store ((entry - 1) % 2 ^ 32)));
+    })
 unfolding recordNamed
 an-entry t store zero h = absurd (h refl)
 an-entry t store (suc n) h = let e : suc n - 1 ≡ n = omega arith in rw e

@@ -268,7 +268,8 @@ module _ (s : List ℕ) where
       go (wrong m) q = cc
       go (right c) q = let z : _≡_ {A = ℕ} 0 1 = cc in absurd (omega arith)
 
-  right-of : (h : SectionHead) (g : Reading) → reads.Right h ≡ readAs s g → (c : Content) × (g ≡ right c) × (h .closing ≡ closingAt (withoutCrc s) (c .closing))
+  right-of : (h : SectionHead) (g : Reading) → reads.Right h ≡ readAs s g
+      → (c : Content) × (g ≡ right c) × (h .closing ≡ closingAt (withoutCrc s) (c .closing))
   unfolding readAs headOf
   right-of h (wrong n) q = let z : _≡_ {A = ℕ} 0 1 = cc in absurd (omega arith)
   right-of h (right c) q = (c, refl, cc)

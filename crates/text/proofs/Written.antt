@@ -102,7 +102,8 @@ unfolding digits
 digits-short zero n = omega arith
 digits-short (suc most) n = go (ltb n 10) (digits-short most (n / 10))
   where
-    go : (b : Bool) → length (digits most (n / 10)) ≤ suc most → length (cond b ((48 + n) ∷ []) (digits most (n / 10) ++ ((48 + n % 10) ∷ []))) ≤ suc (suc most)
+    go : (b : Bool) → length (digits most (n / 10)) ≤ suc most
+        → length (cond b ((48 + n) ∷ []) (digits most (n / 10) ++ ((48 + n % 10) ∷ []))) ≤ suc (suc most)
     go true ih = omega arith
     go false ih = omega (arith, length-append (digits most (n / 10)) ((48 + n % 10) ∷ []))
 

@@ -18,7 +18,8 @@ module _ {M : Type 1} (𝓤 : URA M) (H : Heap 𝓤) (A : Atoms 𝓤) (mem : Mem
   trial_start-determined = determined-by 𝓤 {T = trial_start.ended} (trial_start.clauses 𝓤 H A mem run) _ _ (λ κs a g r e. id⊢ 𝓤 _)
 
   pub trial_offer-determined : Determined 𝓤 {T = trial_offer.ended} (trial_offer.clauses 𝓤 H A mem run) (λ κs r e. withLent r (now (e .1 .0)))
-  trial_offer-determined = determined-by 𝓤 {T = trial_offer.ended} (trial_offer.clauses 𝓤 H A mem run) _ _ (λ κs a g r e. answer-and-lent 𝓤 (id⊢ 𝓤 _) (id⊢ 𝓤 _))
+  trial_offer-determined =
+      determined-by 𝓤 {T = trial_offer.ended} (trial_offer.clauses 𝓤 H A mem run) _ _ (λ κs a g r e. answer-and-lent 𝓤 (id⊢ 𝓤 _) (id⊢ 𝓤 _))
 
   pub trial_check-determined : Determined 𝓤 {T = trial_check.ended} (trial_check.clauses 𝓤 H A mem run) (λ κs r e. r)
   trial_check-determined = determined-by 𝓤 {T = trial_check.ended} (trial_check.clauses 𝓤 H A mem run) _ _ (λ κs a g r e. id⊢ 𝓤 _)

@@ -131,7 +131,8 @@ module _ (s : State) (store : List ℕ) (number n : ℕ) (e : n ≡ checks s sto
   pub refused-early : (n ≡ 0 → ⊥) → n < 14 → Tuned.Refused n ≡ tune s store number
   unfolding checks tune
   refused-early ne h =
-      early (lookUp (plant s store) number) n (leb (storeSize (limitOf s)) (length store)) (wellFormed s) (leb number 4095) (allLive s) (allRead s store) e ne h
+      early (lookUp (plant s store) number) n (leb (storeSize (limitOf s)) (length store)) (wellFormed s) (leb number 4095) (allLive s)
+      (allRead s store) e ne h
 
   pub refused-high : 14 ≤ n → 4095 < number → Tuned.Refused 14 ≡ tune s store number
   unfolding checks tune

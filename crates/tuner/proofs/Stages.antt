@@ -101,7 +101,8 @@ module _ (p : Plant) (c : Channel) where
     unfolding tuneCarrier needs
     carrier-there khz e =
         let x = a-carrier (c .carrier) khz (first (isCarrier (c .carrier)) (p .carriers)) e in
-        rw (lt-ltb 0 (c .carrier) (omega arith)) (ap (tuneKhz p c) (x .known) ∙ at-found (first (isCarrier (c .carrier)) (p .carriers)) 19 _ (x .is) (x .there))
+        rw (lt-ltb 0 (c .carrier) (omega arith)) (ap (tuneKhz p c) (x .known)
+        ∙ at-found (first (isCarrier (c .carrier)) (p .carriers)) 19 _ (x .is) (x .there))
 
 module _ (p : Plant) (number : ℕ) where
   pub not-defined : defined (p .ranges) number ≡ false → Tuned.Refused 17 ≡ lookUp p number

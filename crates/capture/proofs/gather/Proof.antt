@@ -17,7 +17,8 @@ gather-spec = tie.close (tie.spec (λ c κs. search needs)
     (λ c κs. (c .before .before .before .before .before .pre .0, roomy _ _ (c .before .before .begin .ensures) (omega arith)))
     (λ c. search needs)
     (λ c. let f = c .before .before .before .before .before .before .before in
-    sym (length-take-le _ _ (omega (arith, f .follow .ensures .short, f .follow .kept .1 .1 .1 .0, f .before .before .before .before .before .before .pre .0))))
+    sym (length-take-le _ _
+    (omega (arith, f .follow .ensures .short, f .follow .kept .1 .1 .1 .0, f .before .before .before .before .before .before .pre .0))))
     (λ c κs. let f = c .before .before .before .before .before .before .before in
     room-left _ _ (f .before .before .before .begin .ensures) _ (f .follow .ensures .grew) (omega arith))
     (λ c. search needs) (λ c. search needs)
@@ -26,4 +27,8 @@ gather-spec = tie.close (tie.spec (λ c κs. search needs)
     let a = b .before .before .before in
     let s = now (a .args .store) in
     let ps = f .follow .ensures .pieces in
-    record { pieces = ps; is = gathered (a .args .map) _ _ s _ ps (a .pre .1) (f .follow .ensures .is ∙ ap (λ (t : Tally). feedAll (intakeOf t s []) ps) (b .begin .ensures)) (c .before .before .finish .ensures) }))
+    let fed = f .follow .ensures .is ∙ ap (λ (t : Tally). feedAll (intakeOf t s []) ps) (b .begin .ensures) in
+    record {
+      pieces = ps;
+      is = gathered (a .args .map) _ _ s _ ps (a .pre .1) fed (c .before .before .finish .ensures);
+    }))

@@ -21,4 +21,7 @@ line-up-spec = tie.close (tie.spec (λ c κs. search needs)
     let a = m .before .before .before .before in
     let p = c .print .ensures in
     let head = now (a .args .head) in
-    (with-rest head _ _ _ (m .before .if1 .left) (a .pre .0) (all-shown head (m .map-of .result) (g .gather .result .tally) _ (m .map-of .ensures) (g .gather .ensures) (p .0) (p .1 .0)), p .1 .1)))
+    let all = all-shown head (m .map-of .result) (g .gather .result .tally) _ (m .map-of .ensures) (g .gather .ensures) (p .0) (p .1 .0) in (
+      with-rest head _ _ _ (m .before .if1 .left) (a .pre .0) all,
+      p .1 .1,
+    )))

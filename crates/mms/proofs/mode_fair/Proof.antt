@@ -6,11 +6,23 @@ use Rattle.mms.proofs.mode_fair.Tie as tie
 
 returns : tie.Need-returns
 unfolding modeFair assigned
-returns c = simp (lt-leb _ _ (c .if3 .taken), c .before .before .if2 .taken, ← c .before .before .before .inner-assigned .ensures, c .before .before .before .before .if1 .taken, ← c .before .before .before .before .before .system-assigned .ensures)
+returns c = simp (
+  lt-leb _ _ (c .if3 .taken),
+  c .before .before .if2 .taken,
+  ← c .before .before .before .inner-assigned .ensures,
+  c .before .before .before .before .if1 .taken,
+  ← c .before .before .before .before .before .system-assigned .ensures,
+)
 
 returns-2 : tie.Need-returns-2
 unfolding modeFair assigned
-returns-2 c = simp (le-leb _ _ (c .if3 .left), c .before .before .if2 .taken, ← c .before .before .before .inner-assigned .ensures, c .before .before .before .before .if1 .taken, ← c .before .before .before .before .before .system-assigned .ensures)
+returns-2 c = simp (
+  le-leb _ _ (c .if3 .left),
+  c .before .before .if2 .taken,
+  ← c .before .before .before .inner-assigned .ensures,
+  c .before .before .before .before .if1 .taken,
+  ← c .before .before .before .before .before .system-assigned .ensures,
+)
 
 pub mode-fair-spec : {M : Type 1} → statement M
 unfolding modeFair assigned

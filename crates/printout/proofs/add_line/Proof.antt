@@ -6,13 +6,17 @@ use Rattle.printout.proofs.add_line.Statement.{statement}
 use Rattle.printout.proofs.add_line.Tie as tie
 
 add-count : tie.Need-add-t15
-add-count c = omega (arith, c .before .before .before .before .before .lines-of .ensures, one-line (c .before .before .before .before .before .before .before .before .before .before .before .before .before .args .number) (c .before .before .before .before .before .before .look-up .result), c .before .before .before .before .before .before .before .before .before .before .before .before .before .pre .1 .1 .1, c .before .before .before .before .before .before .before .before .before .before .before .before .before .fits .number)
+add-count c =
+    let l = c .before .before .before .before .before in
+    let a = l .before .before .before .before .before .before .before .before in
+    omega (arith, l .lines-of .ensures, one-line (a .args .number) (l .before .look-up .result), a .pre .1 .1 .1, a .fits .number)
 
 returns : tie.Need-returns
 returns c =
     let w = c .before .before .before .channel-line .ensures in
-    added (c .before .before .before .before .before .before .before .before .before .before .before .before .before .args .number)
-    (c .before .before .before .before .before .before .look-up .ensures) (w .1) (w .0) (c .before .before .before .before .before .lines-of .ensures)
+    let l = c .before .before .before .before .before in
+    let a = l .before .before .before .before .before .before .before .before in
+    added (a .args .number) (l .before .look-up .ensures) (w .1) (w .0) (l .lines-of .ensures)
 
 pub add-line-spec : {M : Type 1} → statement M
 add-line-spec = tie.close (tie.spec (λ c κs. search needs) (λ c κs. search needs) (λ c κs. search needs) add-count (λ c. search needs) returns)

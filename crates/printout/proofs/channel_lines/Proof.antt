@@ -15,9 +15,15 @@ channel-lines-spec = tie.close (tie.spec (λ c κs. search needs)
     (λ c. search needs)
     (λ c κs. let f = c .before .before .before .before in (searchable _ _ (sym (f .before .check .ensures) ∙ f .if1 .left) Vcm refl, blank 4096 _ refl))
     (λ c. search needs)
-    (λ c κs. let f = c .before .before .before .before .before .before .before in (searchable _ _ (sym (f .before .check .ensures) ∙ f .if1 .left) Cds refl, blank 256 _ refl))
+    (λ c κs. let f = c .before .before .before .before .before .before .before in (
+      searchable _ _ (sym (f .before .check .ensures) ∙ f .if1 .left) Cds refl,
+      blank 256 _ refl,
+    ))
     (λ c. search needs)
-    (λ c κs. let f = c .before .before .before .before .before .before .before .before .before .before in (searchable _ _ (sym (f .before .check .ensures) ∙ f .if1 .left) Mms refl, blank 256 _ refl))
+    (λ c κs. let f = c .before .before .before .before .before .before .before .before .before .before in (
+      searchable _ _ (sym (f .before .check .ensures) ∙ f .if1 .left) Mms refl,
+      blank 256 _ refl,
+    ))
     (λ c. search needs) (λ c. search needs) (λ c. search needs) (λ c. search needs)
     (λ c κs. let m = c .before .before .before .before .before .before in
     let k = m .before .before .before in
@@ -25,6 +31,14 @@ channel-lines-spec = tie.close (tie.spec (λ c κs. search needs)
     let d = v .before .before .before in
     let f = d .before .before in (
       sym (f .before .check .ensures) ∙ f .if1 .left,
-      (record { ranges-listed = d .list-records .ensures .0; channels-listed = v .list-records2 .ensures .0; carriers-listed = k .list-records3 .ensures .0; modes-listed = m .list-records4 .ensures .0 }, search needs),
+      (
+        record {
+          ranges-listed = d .list-records .ensures .0;
+          channels-listed = v .list-records2 .ensures .0;
+          carriers-listed = k .list-records3 .ensures .0;
+          modes-listed = m .list-records4 .ensures .0;
+        },
+        search needs,
+      ),
     ))
     (λ c. all-written _ _ _ _ 4096 (c .listed-lines .result) refl (c .listed-lines .ensures)))

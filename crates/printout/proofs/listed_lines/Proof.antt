@@ -26,8 +26,11 @@ add-line-requires c κs =
 
 loop-again : tie.Need-loop-again Inv-loop μ-loop
 loop-again c =
-    let l = c .before .before .before .before .before .loop .inv in
-    (omega (arith, c .before .before .before .before .loop-test .taken), c .before .out .given ∙ l .1, below-more (l .2) (c .before .before .add-line .ensures))
+    let l = c .before .before .before .before .before .loop .inv in (
+      omega (arith, c .before .before .before .before .loop-test .taken),
+      c .before .out .given ∙ l .1,
+      below-more (l .2) (c .before .before .add-line .ensures),
+    )
 
 returns : tie.Need-returns Inv-loop μ-loop
 returns c =

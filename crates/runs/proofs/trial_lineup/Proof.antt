@@ -26,12 +26,17 @@ returns-2 c =
 
 returns-3 : tie.Need-returns-3
 returns-3 c =
-    let l = c .before .before .before .before .before .before .before .before .before .before .before .before .before .line-up in
-    let e = l .ensures in
-    let a = c .before .before .before .before .before .before .before .before .before .before .before .before .before .before .before .before .before .before .before .args in
-    both-put (now (a .input)) (now (a .out)) (take (l .result .heading) (l .last .1 .1 .0)) (take (l .result .lines) (l .last .1 .1 .1 .0)) _ _ (e .0) (e .1 .0 .1) (e .1 .1 .1) _ _ (omega (arith, c .before .before .before .before .before .before .before .before .before .before .if2 .left, c .before .before .before .before .before .before .before .before .before .before .before .if1 .left))
-    (c .before .before .before .before .before .before .before .put .ensures) (c .before .before .put2 .ensures)
+    let p = c .before .before .before .before .before .before .before in
+    let f = p .before .before .before in
+    let l = f .before .before .before in
+    let e = l .line-up .ensures in
+    let a = l .before .before .before .before .before .before in
+    let h = take (l .line-up .result .heading) (l .line-up .last .1 .1 .0) in
+    let k = take (l .line-up .result .lines) (l .line-up .last .1 .1 .1 .0) in
+    both-put (now (a .args .input)) (now (a .args .out)) h k _ _ (e .0) (e .1 .0 .1) (e .1 .1 .1) _ _ (omega (arith, f .if2 .left, f .before .if1 .left))
+    (p .put .ensures) (c .before .before .put2 .ensures)
 
 pub trial-lineup-spec : {M : Type 1} → statement M
 trial-lineup-spec = tie.close (tie.spec (λ c. search needs) (λ c κs. fresh-store _) returns (λ c. search needs) returns-2 (λ c. search needs)
-    (λ c. search needs) (λ c κs. search needs) (λ c. search needs) (λ c. search needs) (λ c κs. search needs) (λ c. search needs) (λ c. search needs) returns-3)
+    (λ c. search needs) (λ c κs. search needs) (λ c. search needs) (λ c. search needs) (λ c κs. search needs) (λ c. search needs)
+    (λ c. search needs) returns-3)

@@ -12,4 +12,11 @@ unfolding carrierFound cds
 carrier-at-spec = tie.close (tie.spec (λ c. rw (no-entry Cds _ _ (c .if1 .taken))) (λ c κs. search needs) (λ c κs. search needs) (λ c κs. search needs)
     (λ c. search needs) (λ c. search needs) (λ c κs. search needs) (λ c κs. search needs)
     (λ c. let f = c .before .before in
-    rw (c .carrier-khz .ensures, c .before .beyond .ensures, f .carriers-of .ensures, f .before .part .ensures, f .before .before .place-in .ensures, an-entry Cds _ _ (f .before .before .before .if1 .left))))
+    rw (
+      c .carrier-khz .ensures,
+      c .before .beyond .ensures,
+      f .carriers-of .ensures,
+      f .before .part .ensures,
+      f .before .before .place-in .ensures,
+      an-entry Cds _ _ (f .before .before .before .if1 .left),
+    )))

@@ -10,4 +10,9 @@ use Rattle.search.proofs.channel_at.Tie as tie
 pub channel-at-spec : {M : Type 1} → statement M
 unfolding channelFound vcm
 channel-at-spec = tie.close (tie.spec (λ c. rw (no-entry Vcm _ _ (c .if1 .taken))) (λ c κs. search needs) (λ c κs. search needs) (λ c κs. search needs)
-    (λ c. rw (c .channel-of .ensures, c .before .part .ensures, c .before .before .place-in .ensures, an-entry Vcm _ _ (c .before .before .before .if1 .left))))
+    (λ c. rw (
+      c .channel-of .ensures,
+      c .before .part .ensures,
+      c .before .before .place-in .ensures,
+      an-entry Vcm _ _ (c .before .before .before .if1 .left),
+    )))

@@ -51,8 +51,13 @@ find-entry-spec = tie.close (tie.spec
     let p = f .before .before .before .before .before in
     let w = p .before in
     let g = at-got _ _ _ (p .past-record .ensures) _ (f .before .before .before .next .given .1) .1 in
-    let e = f .before .span-of .ensures in
-    (pass _ _ _ _ (w .before .loop2 .inv .0) (omega (arith, w .loop2-test .taken)) refl (ap (λ (x : Span). x .takes) e) g (rw e at (sym (f .covered .ensures) ∙ c .before .if1 .left)), omega (arith, w .before .loop2 .inv .1)))
+    let e = f .before .span-of .ensures in (
+      pass _ _ _ _ (w .before .loop2 .inv .0) (omega (
+        arith,
+        w .loop2-test .taken,
+      )) refl (ap (λ (x : Span). x .takes) e) g (rw e at (sym (f .covered .ensures) ∙ c .before .if1 .left)),
+      omega (arith, w .before .loop2 .inv .1),
+    ))
     (λ c. let l = c .before .before .before .before .before .before .before in omega (arith, l .loop-test .taken, l .before .before .struct-known .given))
     (λ c. search needs)
     (λ c. ⊎-elim

@@ -16,7 +16,8 @@ past-as : (t u : Table) → t ≡ u → (included at : ℕ) (b : List ℕ) (r : 
 past-as t u e included at b r s =
     subst (λ (x : Table). Stands b r (counted (layoutOf x included .described) (from b (at + extent (layoutOf x included .block) (from b at))))) (sym e) s
 
-size-as : (t u : Table) → t ≡ u → (included : ℕ) (bs : List ℕ) (n : ℕ) → extent (layoutOf t included .block) bs ≤ n → extent (layoutOf u included .block) bs ≤ n
+size-as : (t u : Table) → t ≡ u → (included : ℕ) (bs : List ℕ) (n : ℕ) → extent (layoutOf t included .block) bs ≤ n
+    → extent (layoutOf u included .block) bs ≤ n
 size-as t u e included bs n h = subst (λ (x : Table). extent (layoutOf x included .block) bs ≤ n) e h
 
 pub past-record-spec : {M : Type 1} → statement M

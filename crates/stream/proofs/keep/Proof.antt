@@ -20,8 +20,10 @@ inside c =
 
 loop-again : tie.Need-loop-again Inv-loop μ-loop
 loop-again c =
-    let l = c .before .before .loop in
-    (omega (arith, c .before .loop-test .taken), move-on (l .inv .1) (omega (arith, c .before .loop-test .taken, c .before .before .before .pre .0, c .before .before .before .pre .1)))
+    let l = c .before .before .loop in (
+      omega (arith, c .before .loop-test .taken),
+      move-on (l .inv .1) (omega (arith, c .before .loop-test .taken, c .before .before .before .pre .0, c .before .before .before .pre .1)),
+    )
 
 returns : tie.Need-returns Inv-loop μ-loop
 returns c =
@@ -34,5 +36,11 @@ pub keep-spec : {M : Type 1} → statement M
 keep-spec = tie.close (tie.spec Inv-loop μ-loop (λ c. search needs)
     (λ c. (omega arith, move (now (c .args .buffer)) (c .args .used)))
     (λ c. search needs) inside
-    (λ c. omega (arith, c .before .before .loop .inv .1 .same, c .before .loop-test .taken, c .before .before .before .pre .0, c .before .before .before .pre .1))
+    (λ c. omega (
+      arith,
+      c .before .before .loop .inv .1 .same,
+      c .before .loop-test .taken,
+      c .before .before .before .pre .0,
+      c .before .before .before .pre .1,
+    ))
     (λ c. search needs) (λ c. search needs) loop-again (λ c. c .before .loop .inv .1 .same) returns)

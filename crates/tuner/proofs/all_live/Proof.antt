@@ -9,7 +9,12 @@ use Rattle.tuner.proofs.all_live.Tie as tie
 
 returns-5 : tie.Need-returns-5
 unfolding allLive tableLive
-returns-5 c = simp (eq-eqb _ _ (c .if4 .left), eq-eqb _ _ (c .before .before .if3 .left), eq-eqb _ _ (c .before .before .before .before .if2 .left), eq-eqb _ _ (c .before .before .before .before .before .before .if1 .left))
+returns-5 c = simp (
+  eq-eqb _ _ (c .if4 .left),
+  eq-eqb _ _ (c .before .before .if3 .left),
+  eq-eqb _ _ (c .before .before .before .before .if2 .left),
+  eq-eqb _ _ (c .before .before .before .before .before .before .if1 .left),
+)
 
 pub all-live-spec : {M : Type 1} → statement M
 all-live-spec = tie.close (tie.spec

@@ -14,4 +14,5 @@ is-defined-spec = tie.close (tie.spec
     (λ c κs. let f = c .before .before in (searchable (f .args .s) (now (f .args .store)) (f .pre .0) Dcm refl, f .pre .1))
     (λ c κs. search needs)
     (λ c. let f = c .before .before .before .before in
-    c .defined-at .ensures ∙ ap definedBy (found-by (f .args .s) (now (f .args .store)) (f .pre .0) Dcm refl (f .args .number) (c .before .entry-of .ensures))))
+    c .defined-at .ensures ∙ ap definedBy (found-by (f .args .s) (now (f .args .store)) (f .pre .0) Dcm refl (f .args .number)
+    (c .before .entry-of .ensures))))

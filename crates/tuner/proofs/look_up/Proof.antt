@@ -11,7 +11,10 @@ look-up-spec = tie.close (tie.spec
     (λ c κs. let q = c .before .before .before .before .before .before .pre in (q .0, q .1 .ranges-listed))
     (λ c κs. let q = c .before .before .before .before .before .before .before .before .pre in (q .0, q .1 .channels-listed))
     (λ c. search needs) (λ c. search needs)
-    (λ c κs. let q = c .before .before .before .before .before .before .before .before .before .before .before .before .pre in (q .0, (q .1 .carriers-listed, q .1 .modes-listed)))
+    (λ c κs. let q = c .before .before .before .before .before .before .before .before .before .before .before .before .pre in (
+      q .0,
+      (q .1 .carriers-listed, q .1 .modes-listed),
+    ))
     (λ c. let f = c .before .before in
     let d = f .before .before in
     channel-missing _ _ (sym (d .is-defined .ensures) ∙ f .before .if2 .taken) (sym (c .enum-told .given .1) ∙ f .find-channel .ensures)

@@ -19,7 +19,12 @@ pub tune-spec : {M : Type 1} → statement M
 tune-spec = tie.close (tie.spec (λ c κs. search needs) (λ c. search needs) (λ c. search needs) (λ c. search needs) (λ c. search needs)
     (λ c κs. let f = c .before .before .before .before in (
       sym (f .before .check .ensures) ∙ f .if1 .taken,
-      record { ranges-listed = none-listed _ _ _ _ refl; channels-listed = none-listed _ _ _ _ refl; carriers-listed = none-listed _ _ _ _ refl; modes-listed = none-listed _ _ _ _ refl },
+      record {
+        ranges-listed = none-listed _ _ _ _ refl;
+        channels-listed = none-listed _ _ _ _ refl;
+        carriers-listed = none-listed _ _ _ _ refl;
+        modes-listed = none-listed _ _ _ _ refl;
+      },
     ))
     (λ c. tune-told _ _ _ (c .look-up .ensures))
     (λ c. tune-told _ _ _ (refused-early _ _ _ _ (c .before .before .check .ensures) (c .before .if1 .left) (c .if2 .taken)))

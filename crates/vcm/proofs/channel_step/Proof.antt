@@ -3,7 +3,8 @@ use native.Mathlib.Omega.{arith}
 use denote.Ref.{now}
 use borrow.Author.{Needs.needs, Tests.eq-eqb, Tests.ne-eqb}
 use Rattle.rules.specs.Tables.{vcm, channelFair}
-use Rattle.fields.proofs.Laws.{part-whole, too-short, long-enough, stands-at, counted-not, taken-short, taken-zeros, taken-unfair, taken-here, step-no, step-so}
+use Rattle.fields.proofs.Laws.{part-whole, too-short, long-enough, stands-at, counted-not, taken-short, taken-zeros, taken-unfair, taken-here}
+use Rattle.fields.proofs.Laws.{step-no, step-so}
 use Rattle.vcm.proofs.channel_step.Statement.{statement}
 use Rattle.vcm.proofs.channel_step.Tie as tie
 

@@ -11,19 +11,57 @@ returns-2 c =
 
 returns-3 : tie.Need-returns-3
 unfolding channelZeros transportOf
-returns-3 c = simp (eq-eqb _ _ (c .if3 .taken), eq-eqb _ _ (c .before .if2 .left), eq-eqb _ _ (c .before .before .if1 .left), ← c .before .before .before .byte2 .ensures, ← c .before .before .before .before .byte .ensures)
+returns-3 c = simp (
+  eq-eqb _ _ (c .if3 .taken),
+  eq-eqb _ _ (c .before .if2 .left),
+  eq-eqb _ _ (c .before .before .if1 .left),
+  ← c .before .before .before .byte2 .ensures,
+  ← c .before .before .before .before .byte .ensures,
+)
 
 returns-4 : tie.Need-returns-4
 unfolding channelZeros transportOf
-returns-4 c = simp (ne-eqb _ _ (c .if4 .taken), ← c .before .byte5 .ensures, ← c .before .before .byte4 .ensures, ← c .before .before .before .byte3 .ensures, ne-eqb _ _ (c .before .before .before .before .if3 .left), eq-eqb _ _ (c .before .before .before .before .before .if2 .left), eq-eqb _ _ (c .before .before .before .before .before .before .if1 .left), ← c .before .before .before .before .before .before .before .byte2 .ensures, ← c .before .before .before .before .before .before .before .before .byte .ensures)
+returns-4 c = simp (
+  ne-eqb _ _ (c .if4 .taken),
+  ← c .before .byte5 .ensures,
+  ← c .before .before .byte4 .ensures,
+  ← c .before .before .before .byte3 .ensures,
+  ne-eqb _ _ (c .before .before .before .before .if3 .left),
+  eq-eqb _ _ (c .before .before .before .before .before .if2 .left),
+  eq-eqb _ _ (c .before .before .before .before .before .before .if1 .left),
+  ← c .before .before .before .before .before .before .before .byte2 .ensures,
+  ← c .before .before .before .before .before .before .before .before .byte .ensures,
+)
 
 returns-5 : tie.Need-returns-5
 unfolding channelZeros transportOf
-returns-5 c = simp (ne-eqb _ _ (c .if5 .taken), eq-eqb _ _ (c .before .if4 .left), ← c .before .before .byte5 .ensures, ← c .before .before .before .byte4 .ensures, ← c .before .before .before .before .byte3 .ensures, ne-eqb _ _ (c .before .before .before .before .before .if3 .left), eq-eqb _ _ (c .before .before .before .before .before .before .if2 .left), eq-eqb _ _ (c .before .before .before .before .before .before .before .if1 .left), ← c .before .before .before .before .before .before .before .before .byte2 .ensures, ← c .before .before .before .before .before .before .before .before .before .byte .ensures)
+returns-5 c = simp (
+  ne-eqb _ _ (c .if5 .taken),
+  eq-eqb _ _ (c .before .if4 .left),
+  ← c .before .before .byte5 .ensures,
+  ← c .before .before .before .byte4 .ensures,
+  ← c .before .before .before .before .byte3 .ensures,
+  ne-eqb _ _ (c .before .before .before .before .before .if3 .left),
+  eq-eqb _ _ (c .before .before .before .before .before .before .if2 .left),
+  eq-eqb _ _ (c .before .before .before .before .before .before .before .if1 .left),
+  ← c .before .before .before .before .before .before .before .before .byte2 .ensures,
+  ← c .before .before .before .before .before .before .before .before .before .byte .ensures,
+)
 
 returns-6 : tie.Need-returns-6
 unfolding channelZeros transportOf
-returns-6 c = simp (eq-eqb _ _ (c .if5 .left), eq-eqb _ _ (c .before .if4 .left), ← c .before .before .byte5 .ensures, ← c .before .before .before .byte4 .ensures, ← c .before .before .before .before .byte3 .ensures, ne-eqb _ _ (c .before .before .before .before .before .if3 .left), eq-eqb _ _ (c .before .before .before .before .before .before .if2 .left), eq-eqb _ _ (c .before .before .before .before .before .before .before .if1 .left), ← c .before .before .before .before .before .before .before .before .byte2 .ensures, ← c .before .before .before .before .before .before .before .before .before .byte .ensures)
+returns-6 c = simp (
+  eq-eqb _ _ (c .if5 .left),
+  eq-eqb _ _ (c .before .if4 .left),
+  ← c .before .before .byte5 .ensures,
+  ← c .before .before .before .byte4 .ensures,
+  ← c .before .before .before .before .byte3 .ensures,
+  ne-eqb _ _ (c .before .before .before .before .before .if3 .left),
+  eq-eqb _ _ (c .before .before .before .before .before .before .if2 .left),
+  eq-eqb _ _ (c .before .before .before .before .before .before .before .if1 .left),
+  ← c .before .before .before .before .before .before .before .before .byte2 .ensures,
+  ← c .before .before .before .before .before .before .before .before .before .byte .ensures,
+)
 
 pub channel-zeros-spec : {M : Type 1} → statement M
 unfolding channelZeros transportOf

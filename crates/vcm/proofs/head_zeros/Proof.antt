@@ -11,11 +11,23 @@ returns-2 c =
 
 returns-3 : tie.Need-returns-3
 unfolding vcmHeadZeros
-returns-3 c = simp (ne-eqb _ _ (c .if3 .taken), eq-eqb _ _ (c .before .if2 .left), eq-eqb _ _ (c .before .before .if1 .left), ← c .before .before .before .byte2 .ensures, ← c .before .before .before .before .byte .ensures)
+returns-3 c = simp (
+  ne-eqb _ _ (c .if3 .taken),
+  eq-eqb _ _ (c .before .if2 .left),
+  eq-eqb _ _ (c .before .before .if1 .left),
+  ← c .before .before .before .byte2 .ensures,
+  ← c .before .before .before .before .byte .ensures,
+)
 
 returns-4 : tie.Need-returns-4
 unfolding vcmHeadZeros
-returns-4 c = simp (eq-eqb _ _ (c .if3 .left), eq-eqb _ _ (c .before .if2 .left), eq-eqb _ _ (c .before .before .if1 .left), ← c .before .before .before .byte2 .ensures, ← c .before .before .before .before .byte .ensures)
+returns-4 c = simp (
+  eq-eqb _ _ (c .if3 .left),
+  eq-eqb _ _ (c .before .if2 .left),
+  eq-eqb _ _ (c .before .before .if1 .left),
+  ← c .before .before .before .byte2 .ensures,
+  ← c .before .before .before .before .byte .ensures,
+)
 
 pub head-zeros-spec : {M : Type 1} → statement M
 unfolding vcmHeadZeros

@@ -6,7 +6,13 @@ use Rattle.vcm.proofs.signal_of.Tie as tie
 
 returns : tie.Need-returns
 unfolding signalOf transportOf
-returns c = simp (← c .byte4 .ensures, ← c .before .byte3 .ensures, eq-eqb _ _ (c .before .before .if1 .taken), ← c .before .before .before .byte2 .ensures, ← c .before .before .before .before .byte .ensures)
+returns c = simp (
+  ← c .byte4 .ensures,
+  ← c .before .byte3 .ensures,
+  eq-eqb _ _ (c .before .before .if1 .taken),
+  ← c .before .before .before .byte2 .ensures,
+  ← c .before .before .before .before .byte .ensures,
+)
 
 pub signal-of-spec : {M : Type 1} → statement M
 unfolding signalOf transportOf

@@ -48,8 +48,11 @@ list-records-spec = tie.close (tie.spec
     let p = f .before .before .before .before .before in
     let w = p .before in
     let g = at-got _ _ _ (p .past-record .ensures) _ (f .before .before .before .next .given .1) .1 in
-    let e = f .list-one .ensures in
-    (e .marked .long ∙ w .before .loop2 .inv .0, (λ x. list-on _ _ _ _ (w .before .loop2 .inv .1 x) (omega (arith, w .loop2-test .taken)) g e refl), omega (arith, w .before .loop2 .inv .2)))
+    let e = f .list-one .ensures in (
+      e .marked .long ∙ w .before .loop2 .inv .0,
+      (λ x. list-on _ _ _ _ (w .before .loop2 .inv .1 x) (omega (arith, w .loop2-test .taken)) g e refl),
+      omega (arith, w .before .loop2 .inv .2),
+    ))
     (λ c. search needs) (λ c. search needs)
     (λ c. let l = c .before .loop2 .inv in (
       l .0 ∙ c .before .before .before .before .before .before .before .before .loop .inv .0,
@@ -59,4 +62,7 @@ list-records-spec = tie.close (tie.spec
           (c .loop2-test .came),
     ))
     (λ c. c .before .loop .inv .0)
-    (λ c. let l = c .before in (lists _ _ _ _ (l .loop .i) (behind-all _ _ _ (l .before .before .holding-of .ensures) (c .loop-test .left)) (l .loop .inv .1), l .loop .inv .0)))
+    (λ c. let l = c .before in (
+      lists _ _ _ _ (l .loop .i) (behind-all _ _ _ (l .before .before .holding-of .ensures) (c .loop-test .left)) (l .loop .inv .1),
+      l .loop .inv .0,
+    )))

@@ -7,11 +7,23 @@ use Rattle.section.proofs.closing.revised.Tie as tie
 
 returns-2 : tie.Need-returns-2
 unfolding closedAs revision unless
-returns-2 c = simp (lt-leb _ _ (c .if2 .taken), ← c .before .byte3 .ensures, ← c .before .before .byte2 .ensures, ← c .before .before .before .byte .ensures, le-leb _ _ (c .before .before .before .before .if1 .left))
+returns-2 c = simp (
+  lt-leb _ _ (c .if2 .taken),
+  ← c .before .byte3 .ensures,
+  ← c .before .before .byte2 .ensures,
+  ← c .before .before .before .byte .ensures,
+  le-leb _ _ (c .before .before .before .before .if1 .left),
+)
 
 returns-3 : tie.Need-returns-3
 unfolding closedAs revision unless
-returns-3 c = simp (le-leb _ _ (c .if2 .left), ← c .before .byte3 .ensures, ← c .before .before .byte2 .ensures, ← c .before .before .before .byte .ensures, le-leb _ _ (c .before .before .before .before .if1 .left))
+returns-3 c = simp (
+  le-leb _ _ (c .if2 .left),
+  ← c .before .byte3 .ensures,
+  ← c .before .before .byte2 .ensures,
+  ← c .before .before .before .byte .ensures,
+  le-leb _ _ (c .before .before .before .before .if1 .left),
+)
 
 pub revised-spec : {M : Type 1} → statement M
 unfolding closedAs revision unless
