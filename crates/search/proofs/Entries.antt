@@ -21,21 +21,17 @@ use Rattle.search.proofs.{Marks.covers-one, Sections.section-short, Sec
 
 -- ---- by the table: the numbers that a record goes by
 
-pub test-span : (t : Table) (included index x : ℕ) (bs : List ℕ)
-    → testOf t x (numbered (layoutOf t included) index bs) ≡ covers (spanOf t index bs .first) (spanOf t index bs .count) x
-unfolding isCarrier isMode isChannel isRange spanOf numbered cds mms vcm dcm
-test-span Cds included index x bs = refl
-test-span Mms included index x bs = sym (covers-one index x)
-test-span Vcm included index x bs = sym (covers-one _ x)
-test-span Dcm included index x bs = refl
+record Spans (t : Table) (included index : ℕ) (bs : List ℕ) : Type 0 where
+  goes-by : (x : ℕ) → testOf t x (numbered (layoutOf t included) index bs) ≡ covers (spanOf t index bs .first) (spanOf t index bs .count) x
+  counts : spanOf t index bs .takes
+      ≡ layoutOf t included .takes (layoutOf t included .block .look (take (extent (layoutOf t included .block) bs) bs))
 
-pub takes-span : (t : Table) (included index : ℕ) (bs : List ℕ)
-    → spanOf t index bs .takes ≡ layoutOf t included .takes (layoutOf t included .block .look (take (extent (layoutOf t included .block) bs) bs))
-unfolding spanOf cds mms vcm dcm
-takes-span Cds included index bs = refl
-takes-span Mms included index bs = refl
-takes-span Vcm included index bs = refl
-takes-span Dcm included index bs = refl
+spans : (t : Table) (included index : ℕ) (bs : List ℕ) → Spans t included index bs
+unfolding isCarrier isMode isChannel isRange spanOf numbered cds mms vcm dcm
+spans Cds included index bs = record { goes-by = λ x. refl; counts = refl }
+spans Mms included index bs = record { goes-by = λ x. sym (covers-one index x); counts = refl }
+spans Vcm included index bs = record { goes-by = λ x. sym (covers-one _ x); counts = refl }
+spans Dcm included index bs = record { goes-by = λ x. refl; counts = refl }
 
 -- ---- the two loops
 
@@ -150,7 +146,7 @@ module _ (s : State) (store : List ℕ) (t : Table) (x : ℕ) where
         let o = one m f in
         let here = at-behind c (o .whole .behind) in
         let counts : next ≡ index + l .takes (l .block .look (take (extent (l .block) (from b at)) (from b at))) =
-        g ∙ ap (λ (n : ℕ). index + n) (k ∙ takes-span t included index (from b at)) in
+        g ∙ ap (λ (n : ℕ). index + n) (k ∙ spans t included index (from b at) .counts) in
         let stands : start + length b - length (from b at) ≡ start + at = omega (arith, from-length b at, inside (omega arith)) in
         let is : entryNumber (first goes (standing l (suc m) index (start + length b) (from b at) ++ onFrom (i + 1)))
         ≡ later = rw (← (f ∙ add-one m)) (w .is) in (
@@ -160,7 +156,8 @@ module _ (s : State) (store : List ℕ) (t : Table) (x : ℕ) where
               ∙ ap₂ (λ (n : ℕ) (rest : List ℕ). cond (testOf t x (numbered l index (from b at))) (1 + (start + at) + index * 2 ^ 32)
               (entryNumber (first goes (standing l m n (start + length b) rest ++ onFrom (i + 1))))) (sym counts) here
               ∙ ap (λ (c : Bool). cond c (1 + (start + at) + index * 2 ^ 32)
-              (entryNumber (first goes (standing l m next (start + length b) (from b place) ++ onFrom (i + 1))))) (test-span t included index x (from b at)),
+              (entryNumber (first goes (standing l m next (start + length b) (from b place) ++ onFrom (i + 1)))))
+              (spans t included index (from b at) .goes-by x),
         )
       where
         at-behind : {rest : List ℕ}
