@@ -13,13 +13,15 @@ use prog.Memory.{Memory}
 use prog.Routine.{Routine}
 use prog.Wp.{Heap}
 use Rattle.rules.proofs.Determined.{Determined, determined-by, determined-once, both-say}
-use Rattle.search.proofs.find_entry
+use Rattle.search.proofs.carrier_entry
+use Rattle.search.proofs.mode_entry
+use Rattle.search.proofs.channel_entry
+use Rattle.search.proofs.range_entry
 use Rattle.search.proofs.carrier_at
 use Rattle.search.proofs.mode_at
 use Rattle.search.proofs.channel_at
 use Rattle.search.proofs.defined_at
 use Rattle.search.proofs.listing.list_records
-use Rattle.search.proofs.listing.entry_of
 
 same-all : (xs ys : List ℕ) → length xs ≡ length ys → ((n : ℕ) → n < length xs → getD xs n 0 ≡ getD ys n 0) → xs ≡ ys
 same-all [] [] e h = refl
@@ -31,8 +33,17 @@ same-all (x ∷ xs) (y ∷ ys) e h =
     cc
 
 module _ {M : Type 1} (𝓤 : URA M) (H : Heap 𝓤) (A : Atoms 𝓤) (mem : Memory → SProp 𝓤) (run : Routine → Fun 𝓤) where
-  pub find_entry-determined : Determined 𝓤 {T = find_entry.ended} (find_entry.clauses 𝓤 H A mem run) (λ κs r e. r)
-  find_entry-determined = determined-by 𝓤 {T = find_entry.ended} (find_entry.clauses 𝓤 H A mem run) _ _ (λ κs a g r e. id⊢ 𝓤 _)
+  pub carrier_entry-determined : Determined 𝓤 {T = carrier_entry.ended} (carrier_entry.clauses 𝓤 H A mem run) (λ κs r e. r)
+  carrier_entry-determined = determined-by 𝓤 {T = carrier_entry.ended} (carrier_entry.clauses 𝓤 H A mem run) _ _ (λ κs a g r e. id⊢ 𝓤 _)
+
+  pub mode_entry-determined : Determined 𝓤 {T = mode_entry.ended} (mode_entry.clauses 𝓤 H A mem run) (λ κs r e. r)
+  mode_entry-determined = determined-by 𝓤 {T = mode_entry.ended} (mode_entry.clauses 𝓤 H A mem run) _ _ (λ κs a g r e. id⊢ 𝓤 _)
+
+  pub channel_entry-determined : Determined 𝓤 {T = channel_entry.ended} (channel_entry.clauses 𝓤 H A mem run) (λ κs r e. r)
+  channel_entry-determined = determined-by 𝓤 {T = channel_entry.ended} (channel_entry.clauses 𝓤 H A mem run) _ _ (λ κs a g r e. id⊢ 𝓤 _)
+
+  pub range_entry-determined : Determined 𝓤 {T = range_entry.ended} (range_entry.clauses 𝓤 H A mem run) (λ κs r e. r)
+  range_entry-determined = determined-by 𝓤 {T = range_entry.ended} (range_entry.clauses 𝓤 H A mem run) _ _ (λ κs a g r e. id⊢ 𝓤 _)
 
   pub carrier_at-determined : Determined 𝓤 {T = carrier_at.ended} (carrier_at.clauses 𝓤 H A mem run) (λ κs r e. r)
   carrier_at-determined = determined-by 𝓤 {T = carrier_at.ended} (carrier_at.clauses 𝓤 H A mem run) _ _ (λ κs a g r e. id⊢ 𝓤 _)
@@ -45,9 +56,6 @@ module _ {M : Type 1} (𝓤 : URA M) (H : Heap 𝓤) (A : Atoms 𝓤) (mem : Mem
 
   pub defined_at-determined : Determined 𝓤 {T = defined_at.ended} (defined_at.clauses 𝓤 H A mem run) (λ κs r e. r)
   defined_at-determined = determined-by 𝓤 {T = defined_at.ended} (defined_at.clauses 𝓤 H A mem run) _ _ (λ κs a g r e. id⊢ 𝓤 _)
-
-  pub entry_of-determined : Determined 𝓤 {T = entry_of.ended} (entry_of.clauses 𝓤 H A mem run) (λ κs r e. r)
-  entry_of-determined = determined-by 𝓤 {T = entry_of.ended} (entry_of.clauses 𝓤 H A mem run) _ _ (λ κs a g r e. id⊢ 𝓤 _)
 
   pub list_records-determined : Determined 𝓤 {T = list_records.ended} (list_records.clauses 𝓤 H A mem run) (λ κs r e. now (e .1 .1 .1 .0))
   list_records-determined = determined-once 𝓤 {T = list_records.ended} (list_records.clauses 𝓤 H A mem run) _ _ (λ κs a g r e. both-say 𝓤 (id⊢ 𝓤 _) (id⊢ 𝓤 _))

@@ -1,6 +1,6 @@
-// The search of the live tables, for channels, carriers, modes and ranges alike: nested loops over sections and records, left from inside at
-// the first match. It goes over places that passed check 16, so a record is passed by its size and its descriptors alone. What is
-// found is an entry, a number that says where in the store the record stands; what the record says is read there.
+// The searches of the live tables, for channels, carriers, modes and ranges alike: nested loops over sections and records, left from
+// inside at the first match. They go over places that passed check 16, so a record is passed by its size and its descriptors alone.
+// What is found is an entry, a number that says where in the store the record stands; what the record says is read there.
 ghost use mathlib.Core.Path.{_≡_};
 ghost use Prim.Native.Nat.{_+_, _-_, _*_, _%_, _^_, _≤_, _<_};
 ghost use lib.ListN.{length};
@@ -134,24 +134,110 @@ fn entry_at(place: usize, index: u32) -> u64
     1 + place as u64 + index as u64 * 4294967296
 }
 
-// The entry of the first record that goes by a number, or 0.
-pub fn find_entry(s: State, store: &[u8], t: Table, number: u16) -> u64
-    requires { ⌜ Live s (now store) t ⌝ }
-    ensures { λ r. ⌜ r ≡ entryOf s (now (store .entry)) t number ⌝ }
+// A search for each table: a loop that knows its table is what the compiler makes fast.
+
+// The entry of the first carrier record that has an index, or 0.
+pub fn carrier_entry(s: State, store: &[u8], number: u16) -> u64
+    requires { ⌜ Live s (now store) table.Cds ⌝ }
+    ensures { λ r. ⌜ r ≡ entryOf s (now (store .entry)) table.Cds number ⌝ }
 {
-    let h = state::holding_of(s, t);
+    let h = state::holding_of(s, Table::Cds);
     let sections = h.live.last as u16 + 1;
     for i in 0..sections {
-        let start = state::place_of(s, t, h.half, i as u8);
-        let b = live_bytes(s, store, t, i as u8);
-        let walk = outline_in(tables::outline_of(t, b));
+        let start = state::place_of(s, Table::Cds, h.half, i as u8);
+        let b = live_bytes(s, store, Table::Cds, i as u8);
+        let walk = outline_in(cds::outline(b));
         let mut at = walk.at;
         let mut index = walk.first as u32;
         for k in 0..walk.count {
-            let Skip::At(next) = past_record(t, b, at, walk.included) else {
+            let Skip::At(next) = past_record(Table::Cds, b, at, walk.included) else {
                 break;
             };
-            let span = span_of(t, b, at, index);
+            let span = span_of(Table::Cds, b, at, index);
+            if covered(span.first, span.count, number as u32) {
+                return entry_at(start + at, index);
+            }
+            index = index + span.takes as u32;
+            at = next;
+        }
+    }
+    0
+}
+
+// Of the first mode of an index.
+pub fn mode_entry(s: State, store: &[u8], number: u16) -> u64
+    requires { ⌜ Live s (now store) table.Mms ⌝ }
+    ensures { λ r. ⌜ r ≡ entryOf s (now (store .entry)) table.Mms number ⌝ }
+{
+    let h = state::holding_of(s, Table::Mms);
+    let sections = h.live.last as u16 + 1;
+    for i in 0..sections {
+        let start = state::place_of(s, Table::Mms, h.half, i as u8);
+        let b = live_bytes(s, store, Table::Mms, i as u8);
+        let walk = outline_in(mms::outline(b));
+        let mut at = walk.at;
+        let mut index = walk.first as u32;
+        for k in 0..walk.count {
+            let Skip::At(next) = past_record(Table::Mms, b, at, walk.included) else {
+                break;
+            };
+            let span = span_of(Table::Mms, b, at, index);
+            if covered(span.first, span.count, number as u32) {
+                return entry_at(start + at, index);
+            }
+            index = index + span.takes as u32;
+            at = next;
+        }
+    }
+    0
+}
+
+// Of the first record of a channel.
+pub fn channel_entry(s: State, store: &[u8], number: u16) -> u64
+    requires { ⌜ Live s (now store) table.Vcm ⌝ }
+    ensures { λ r. ⌜ r ≡ entryOf s (now (store .entry)) table.Vcm number ⌝ }
+{
+    let h = state::holding_of(s, Table::Vcm);
+    let sections = h.live.last as u16 + 1;
+    for i in 0..sections {
+        let start = state::place_of(s, Table::Vcm, h.half, i as u8);
+        let b = live_bytes(s, store, Table::Vcm, i as u8);
+        let walk = outline_in(vcm::outline(b));
+        let mut at = walk.at;
+        let mut index = walk.first as u32;
+        for k in 0..walk.count {
+            let Skip::At(next) = past_record(Table::Vcm, b, at, walk.included) else {
+                break;
+            };
+            let span = span_of(Table::Vcm, b, at, index);
+            if covered(span.first, span.count, number as u32) {
+                return entry_at(start + at, index);
+            }
+            index = index + span.takes as u32;
+            at = next;
+        }
+    }
+    0
+}
+
+// Of the first range that covers a channel.
+pub fn range_entry(s: State, store: &[u8], number: u16) -> u64
+    requires { ⌜ Live s (now store) table.Dcm ⌝ }
+    ensures { λ r. ⌜ r ≡ entryOf s (now (store .entry)) table.Dcm number ⌝ }
+{
+    let h = state::holding_of(s, Table::Dcm);
+    let sections = h.live.last as u16 + 1;
+    for i in 0..sections {
+        let start = state::place_of(s, Table::Dcm, h.half, i as u8);
+        let b = live_bytes(s, store, Table::Dcm, i as u8);
+        let walk = outline_in(dcm::outline(b));
+        let mut at = walk.at;
+        let mut index = walk.first as u32;
+        for k in 0..walk.count {
+            let Skip::At(next) = past_record(Table::Dcm, b, at, walk.included) else {
+                break;
+            };
+            let span = span_of(Table::Dcm, b, at, index);
             if covered(span.first, span.count, number as u32) {
                 return entry_at(start + at, index);
             }

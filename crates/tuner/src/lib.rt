@@ -19,7 +19,6 @@ use rules::Tuned;
 use search::CarrierFound;
 use search::ChannelFound;
 use search::ModeFound;
-use search::listing;
 
 // ---- the checks: 1, 2, 15 and 16
 
@@ -115,10 +114,10 @@ fn is_defined(s: State, store: &[u8], ranges: &[u64], number: u16) -> bool
     requires { ⌜ Lists s (now store) table.Dcm (now ranges) ⌝ }
     ensures { λ x. ⌜ x ≡ defined (plant s (now (store .entry)) .ranges) number ⌝ }
 {
-    search::defined_at(
-        store,
-        listing::entry_of(s, store, Table::Dcm, ranges, number),
-    )
+    if (number as usize) < ranges.len() {
+        return search::defined_at(store, ranges[number as usize]);
+    }
+    search::defined_at(store, search::range_entry(s, store, number))
 }
 
 fn find_channel(s: State, store: &[u8], channels: &[u64], number: u16) -> ChannelFound
@@ -126,10 +125,10 @@ fn find_channel(s: State, store: &[u8], channels: &[u64], number: u16) -> Channe
     requires { ⌜ Lists s (now store) table.Vcm (now channels) ⌝ }
     ensures { λ x. ⌜ x ≡ channelFound (first (isChannel number) (plant s (now (store .entry)) .channels)) ⌝ }
 {
-    search::channel_at(
-        store,
-        listing::entry_of(s, store, Table::Vcm, channels, number),
-    )
+    if (number as usize) < channels.len() {
+        return search::channel_at(store, channels[number as usize]);
+    }
+    search::channel_at(store, search::channel_entry(s, store, number))
 }
 
 fn find_carrier(s: State, store: &[u8], carriers: &[u64], index: u8) -> CarrierFound
@@ -137,7 +136,10 @@ fn find_carrier(s: State, store: &[u8], carriers: &[u64], index: u8) -> CarrierF
     requires { ⌜ Lists s (now store) table.Cds (now carriers) ⌝ }
     ensures { λ x. ⌜ x ≡ carrierFound index (first (isCarrier index) (plant s (now (store .entry)) .carriers)) ⌝ }
 {
-    let entry = listing::entry_of(s, store, Table::Cds, carriers, index as u16);
+    if (index as usize) < carriers.len() {
+        return search::carrier_at(store, carriers[index as usize], index);
+    }
+    let entry = search::carrier_entry(s, store, index as u16);
     search::carrier_at(store, entry, index)
 }
 
@@ -146,8 +148,10 @@ fn find_mode(s: State, store: &[u8], modes: &[u64], index: u8) -> ModeFound
     requires { ⌜ Lists s (now store) table.Mms (now modes) ⌝ }
     ensures { λ x. ⌜ x ≡ modeFound (first (isMode index) (plant s (now (store .entry)) .modes)) ⌝ }
 {
-    let entry = listing::entry_of(s, store, Table::Mms, modes, index as u16);
-    search::mode_at(store, entry)
+    if (index as usize) < modes.len() {
+        return search::mode_at(store, modes[index as usize]);
+    }
+    search::mode_at(store, search::mode_entry(s, store, index as u16))
 }
 
 // ---- a channel record: 19, 20 and 21

@@ -5,20 +5,21 @@ use mathlib.Core.Path.{refl, sym, ap, _∙_}
 use mathlib.Core.Logic.{⊎-elim}
 use denote.Ref.{now}
 use borrow.Author.Needs.{needs}
+use Rattle.rules.specs.declared.Table.the-variants.{Vcm}
 use Rattle.fields.proofs.Laws.{at-got, at-no}
 use Rattle.search.specs.{Entries.outlineIn, Entries.entryOf, declared.Span.Span}
 use Rattle.search.proofs.Sections.{one-of, behind-all, live-place}
 use Rattle.search.proofs.Entries.{Outside, Inside, set-out, none-left, go-in, go-out, fits, small, never, match, pass}
-use Rattle.search.proofs.find_entry.Statement.{statement}
-use Rattle.search.proofs.find_entry.Tie as tie
+use Rattle.search.proofs.channel_entry.Statement.{statement}
+use Rattle.search.proofs.channel_entry.Tie as tie
 
-pub find-entry-spec : {M : Type 1} → statement M
-find-entry-spec = tie.close (tie.spec
-    (λ s store t number h sections i start b walk at₀ index₀ k₀ k-end at index k.
-    Inside s store t number (walk .included) start i (k-end - k) index b at (entryOf s store t number) × (index ≤ 65535 + 255 * k))
-    (λ s store t number h sections i start b walk at₀ index₀ k₀ k-end at index k. k-end - k)
-    (λ s store t number h sections i₀ i. Outside s store t number i (entryOf s store t number))
-    (λ s store t number h sections i₀ i. sections - i)
+pub channel-entry-spec : {M : Type 1} → statement M
+channel-entry-spec = tie.close (tie.spec
+    (λ s store number h sections i start b walk at₀ index₀ k₀ k-end at index k.
+    Inside s store Vcm number (walk .included) start i (k-end - k) index b at (entryOf s store Vcm number) × (index ≤ 65535 + 255 * k))
+    (λ s store number h sections i start b walk at₀ index₀ k₀ k-end at index k. k-end - k)
+    (λ s store number h sections i₀ i. Outside s store Vcm number i (entryOf s store Vcm number))
+    (λ s store number h sections i₀ i. sections - i)
     (λ c κs. search needs) (λ c. search needs) (λ c. search needs) (λ c. set-out _ _ _ _) (λ c. search needs) (λ c κs. search needs) (λ c. search needs)
     (λ c κs. search needs) (λ c κs. search needs) (λ c κs. search needs) (λ c. search needs)
     (λ c. let o = c .before in
@@ -27,9 +28,9 @@ find-entry-spec = tie.close (tie.spec
     let g = l .before .before in
     let a = g .before .before in
     let e = g .holding-of .ensures in (
-      rw sub-zero (go-in (a .args .s) (now (a .args .store)) (a .args .t) (a .args .number) (a .pre) (l .loop .inv)
+      rw sub-zero (go-in (a .args .s) (now (a .args .store)) Vcm (a .args .number) (a .pre) (l .loop .inv)
           (one-of _ _ _ e (p .before .loop-test .taken)) _ _ _ (o .before .before .live-bytes .ensures)
-          (o .outline-in .ensures ∙ ap outlineIn (o .before .outline-of .ensures)) (p .place-of .ensures ∙ live-place _ _ _ e)),
+          (o .outline-in .ensures ∙ ap outlineIn (o .before .outline .ensures)) (p .place-of .ensures ∙ live-place _ _ _ e)),
       omega (arith, c .struct-known2 .given),
     ))
     (λ c κs. fits _ _ _ _ (c .before .loop2 .inv .0) (omega arith))

@@ -1,0 +1,68 @@
+-- At both loops the entry of the first match from here on is the answer.
+use Prim.Native.Nat.{_+_, _-_, _*_, _≤_}
+use native.Mathlib.{Omega.arith, Nat.sub-zero}
+use mathlib.Core.Path.{refl, sym, ap, _∙_}
+use mathlib.Core.Logic.{⊎-elim}
+use denote.Ref.{now}
+use borrow.Author.Needs.{needs}
+use Rattle.rules.specs.declared.Table.the-variants.{Mms}
+use Rattle.fields.proofs.Laws.{at-got, at-no}
+use Rattle.search.specs.{Entries.outlineIn, Entries.entryOf, declared.Span.Span}
+use Rattle.search.proofs.Sections.{one-of, behind-all, live-place}
+use Rattle.search.proofs.Entries.{Outside, Inside, set-out, none-left, go-in, go-out, fits, small, never, match, pass}
+use Rattle.search.proofs.mode_entry.Statement.{statement}
+use Rattle.search.proofs.mode_entry.Tie as tie
+
+pub mode-entry-spec : {M : Type 1} → statement M
+mode-entry-spec = tie.close (tie.spec
+    (λ s store number h sections i start b walk at₀ index₀ k₀ k-end at index k.
+    Inside s store Mms number (walk .included) start i (k-end - k) index b at (entryOf s store Mms number) × (index ≤ 65535 + 255 * k))
+    (λ s store number h sections i start b walk at₀ index₀ k₀ k-end at index k. k-end - k)
+    (λ s store number h sections i₀ i. Outside s store Mms number i (entryOf s store Mms number))
+    (λ s store number h sections i₀ i. sections - i)
+    (λ c κs. search needs) (λ c. search needs) (λ c. search needs) (λ c. set-out _ _ _ _) (λ c. search needs) (λ c κs. search needs) (λ c. search needs)
+    (λ c κs. search needs) (λ c κs. search needs) (λ c κs. search needs) (λ c. search needs)
+    (λ c. let o = c .before in
+    let p = o .before .before .before in
+    let l = p .before .before in
+    let g = l .before .before in
+    let a = g .before .before in
+    let e = g .holding-of .ensures in (
+      rw sub-zero (go-in (a .args .s) (now (a .args .store)) Mms (a .args .number) (a .pre) (l .loop .inv)
+          (one-of _ _ _ e (p .before .loop-test .taken)) _ _ _ (o .before .before .live-bytes .ensures)
+          (o .outline-in .ensures ∙ ap outlineIn (o .before .outline .ensures)) (p .place-of .ensures ∙ live-place _ _ _ e)),
+      omega (arith, c .struct-known2 .given),
+    ))
+    (λ c κs. fits _ _ _ _ (c .before .loop2 .inv .0) (omega arith))
+    (λ c. search needs) (λ c. search needs) (λ c κs. search needs) (λ c κs. search needs)
+    (λ c. let w = c .before .before .before .before .before .before .before in
+    omega (arith, small _ _ _ _ (w .before .loop2 .inv .0) (omega (arith, w .loop2-test .taken))))
+    (λ c κs. let w = c .before .before .before .before .before .before .before in
+    omega (arith, small _ _ _ _ (w .before .loop2 .inv .0) (omega (arith, w .loop2-test .taken))))
+    (λ c. let f = c .before .before in
+    let p = f .before .before .before .before .before in
+    let w = p .before in
+    let g = at-got _ _ _ (p .past-record .ensures) _ (f .before .before .before .next .given .1) .1 in
+    c .entry-at .ensures ∙ match _ _ _ _ (w .before .loop2 .inv .0) _ (omega (arith, w .loop2-test .taken))
+    (rw (f .before .span-of .ensures) at (sym (f .covered .ensures) ∙ c .before .if1 .taken)) g)
+    (λ c. search needs)
+    (λ c. let w = c .before .before .before .before .before .before .before .before .before in omega (arith, w .loop2 .inv .1))
+    (λ c. search needs) (λ c. search needs)
+    (λ c. let f = c .before .before in
+    let p = f .before .before .before .before .before in
+    let w = p .before in
+    let g = at-got _ _ _ (p .past-record .ensures) _ (f .before .before .before .next .given .1) .1 in
+    let e = f .before .span-of .ensures in (
+      pass _ _ _ _ (w .before .loop2 .inv .0) (omega (
+        arith,
+        w .loop2-test .taken,
+      )) refl (ap (λ (x : Span). x .takes) e) g (rw e at (sym (f .covered .ensures) ∙ c .before .if1 .left)),
+      omega (arith, w .before .loop2 .inv .1),
+    ))
+    (λ c. let l = c .before .before .before .before .before .before .before in omega (arith, l .loop-test .taken, l .before .before .struct-known .given))
+    (λ c. search needs)
+    (λ c. ⊎-elim
+    (λ w. go-out _ _ _ _ (c .before .loop2 .inv .0) (omega arith))
+    (λ w. absurd (never _ _ _ _ (c .before .loop2 .inv .0) (omega arith) (at-no _ _ _ (w .1 .ensures) _ (w .3 .given .1))))
+    (c .loop2-test .came))
+    (λ c. none-left _ _ _ _ (c .before .loop .inv) (behind-all _ _ _ (c .before .before .before .holding-of .ensures) (c .loop-test .left))))
