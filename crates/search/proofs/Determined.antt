@@ -14,8 +14,8 @@ use prog.Routine.{Routine}
 use prog.Wp.{Heap}
 use Rattle.rules.proofs.Determined.{Determined, determined-by, determined-once, both-say}
 use Rattle.search.proofs.carrier_entry
-use Rattle.search.proofs.mode_entry
 use Rattle.search.proofs.channel_entry
+use Rattle.search.proofs.mode_entry
 use Rattle.search.proofs.range_entry
 use Rattle.search.proofs.carrier_at
 use Rattle.search.proofs.mode_at

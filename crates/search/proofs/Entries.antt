@@ -5,17 +5,19 @@ use native.Mathlib.{Omega.arith, Numerals.add-one, Nat.sub-zero}
 use mathlib.Core.Path.{_≡_, refl, sym, ap, ap₂, subst, _∙_}
 use mathlib.Core.Bool.{Bool, true, false, cond}
 use mathlib.Core.{List.List, List._++_, Option.Option, Option.some}
-use lib.ListN.{length, take}
+use lib.ListN.{length, take, drop}
+use lib.Dec.{eqb}
 use Rattle.rules.specs.{Bytes.refused, Bytes.got, Bytes.from, Descriptors.counted, Section.withoutCrc, Holding.sectionAt, Holding.liveAt}
 use Rattle.rules.specs.{Search.first, Search.sections, declared.Table.Table, declared.State.State}
 use Rattle.rules.specs.Layout.{extent, Layout, Numbered, numbered, entry, after, records}
-use Rattle.rules.specs.Tables.{cds, mms, vcm, dcm}
+use Rattle.rules.specs.Tables.{cds, mms, vcm, dcm, channelOf}
 use Rattle.rules.specs.Tuning.{covers, isCarrier, isMode, isChannel, isRange, liveCount}
 use Rattle.rules.specs.declared.Table.the-variants.{Cds, Mms, Vcm, Dcm}
 use Rattle.rules.proofs.Search.{sections-more, sections-none, More, more}
 use Rattle.rules.proofs.Places.{from-from, from-length}
 use Rattle.fields.specs.{Outline.layoutOf, Outline.outlineOf, declared.Outline.Outline}
 use Rattle.fields.proofs.Outlines.{laid}
+use Rattle.fields.proofs.Laws.{part-whole}
 use Rattle.search.specs.Entries.{Live, RecordOf, testOf, spanOf, outlineIn, Standing, ofGot, standing, standingIn, entryNumber, entryOf}
 use Rattle.search.proofs.{Marks.covers-one, Sections.section-short, Sections.low-live, Sections.live-walk}
 
@@ -32,6 +34,17 @@ spans Cds included index bs = record { goes-by = λ x. refl; counts = refl }
 spans Mms included index bs = record { goes-by = λ x. sym (covers-one index x); counts = refl }
 spans Vcm included index bs = record { goes-by = λ x. sym (covers-one _ x); counts = refl }
 spans Dcm included index bs = record { goes-by = λ x. refl; counts = refl }
+
+-- a channel record goes by the number that it carries, and takes no index
+module _ (index x : ℕ) (b : List ℕ) (at : ℕ) where
+  pub channel-goes : {n : ℕ} → n ≡ channelOf (take (at + 9 - at) (drop at b)) .number
+      → covers (spanOf Vcm index (from b at) .first) (spanOf Vcm index (from b at) .count) x ≡ eqb n x
+  unfolding spanOf vcm
+  channel-goes e = covers-one _ x ∙ ap (λ (r : List ℕ). eqb (channelOf r .number) x) (sym (part-whole b at 9)) ∙ ap (λ (m : ℕ). eqb m x) (sym e)
+
+  pub channel-takes : 0 ≡ spanOf Vcm index (from b at) .takes
+  unfolding spanOf
+  channel-takes = refl
 
 -- ---- the two loops
 

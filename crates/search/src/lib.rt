@@ -192,7 +192,7 @@ pub fn mode_entry(s: State, store: &[u8], number: u16) -> u64
     0
 }
 
-// Of the first record of a channel.
+// Of the first record of a channel: it carries its number itself.
 pub fn channel_entry(s: State, store: &[u8], number: u16) -> u64
     requires { ⌜ Live s (now store) table.Vcm ⌝ }
     ensures { λ r. ⌜ r ≡ entryOf s (now (store .entry)) table.Vcm number ⌝ }
@@ -204,16 +204,13 @@ pub fn channel_entry(s: State, store: &[u8], number: u16) -> u64
         let b = live_bytes(s, store, Table::Vcm, i as u8);
         let walk = outline_in(vcm::outline(b));
         let mut at = walk.at;
-        let mut index = walk.first as u32;
         for k in 0..walk.count {
             let Skip::At(next) = past_record(Table::Vcm, b, at, walk.included) else {
                 break;
             };
-            let span = span_of(Table::Vcm, b, at, index);
-            if covered(span.first, span.count, number as u32) {
-                return entry_at(start + at, index);
+            if vcm::number_of(&b[at..at + vcm::SIZE]) == number {
+                return entry_at(start + at, walk.first as u32);
             }
-            index = index + span.takes as u32;
             at = next;
         }
     }
