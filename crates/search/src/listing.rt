@@ -4,8 +4,10 @@ ghost use mathlib.Core.Path.{_≡_};
 ghost use Prim.Native.Nat.{_<_};
 ghost use lib.ListN.{length};
 ghost use Rattle.rules.specs.Bytes.{from};
-ghost use Rattle.search.specs.Entries.{Live};
+ghost use Rattle.fields.specs.Outline as rule;
+ghost use Rattle.search.specs.Entries.{Live, outlineIn};
 ghost use Rattle.search.specs.Listing.{Lists, Blank, Marked, Entered};
+use fields::Outline;
 use fields::Skip;
 use rules::State;
 use rules::Table;
@@ -44,6 +46,18 @@ fn list_one(entries: &mut [u64], t: Table, b: &[u8], at: usize, index: u32, plac
     span.takes
 }
 
+// Where the records of a live section stand.
+fn outline_of(t: Table, b: &[u8]) -> Outline
+    ensures { λ x. ⌜ x ≡ outlineIn (rule.outlineOf t (now (b .entry))) ⌝ }
+{
+    match t {
+        Table::Cds => crate::outline_in(cds::outline(b)),
+        Table::Mms => crate::outline_in(mms::outline(b)),
+        Table::Vcm => crate::outline_in(vcm::outline(b)),
+        Table::Dcm => crate::outline_in(dcm::outline(b)),
+    }
+}
+
 // The entry of every number that `entries` has room for.
 pub fn list_records(s: State, store: &[u8], t: Table, entries: &mut [u64])
     requires { ⌜ Live s (now store) t ⌝ }
@@ -56,7 +70,7 @@ pub fn list_records(s: State, store: &[u8], t: Table, entries: &mut [u64])
     for i in 0..sections {
         let start = state::place_of(s, t, h.half, i as u8);
         let b = crate::live_bytes(s, store, t, i as u8);
-        let walk = crate::outline_in(tables::outline_of(t, b));
+        let walk = outline_of(t, b);
         let mut at = walk.at;
         let mut index = walk.first as u32;
         for k in 0..walk.count {

@@ -7,7 +7,6 @@ use lib.ListN.{length}
 use denote.Ref.{now}
 use borrow.Author.Needs.{needs}
 use Rattle.fields.proofs.Laws.{at-got, at-no}
-use Rattle.search.specs.Entries.{outlineIn}
 use Rattle.search.proofs.{Sections.one-of, Sections.behind-all, Sections.live-place, Entries.fits, Entries.small, Entries.never}
 use Rattle.search.proofs.Listed.{Before, Within, begin, enter, leave, lists, list-on}
 use Rattle.search.proofs.listing.list_records.Statement.{statement}
@@ -22,17 +21,17 @@ list-records-spec = tie.close (tie.spec
     (λ s store t entries₀ h sections i₀ entries i. sections - i)
     (λ c κs. search needs) (λ c. search needs) (λ c. search needs)
     (λ c. (refl, begin _ _ _ _ (c .before .before .before .before .pre .1)))
-    (λ c. search needs) (λ c κs. search needs) (λ c. search needs) (λ c κs. search needs) (λ c κs. search needs) (λ c κs. search needs) (λ c. search needs)
+    (λ c. search needs) (λ c κs. search needs) (λ c. search needs) (λ c κs. search needs) (λ c κs. search needs) (λ c. search needs)
     (λ c. let o = c .before in
-    let p = o .before .before .before in
+    let p = o .before .before in
     let l = p .before .before in
     let g = l .before .before in
     let a = g .before .before .before in
     let e = g .holding-of .ensures in (
       refl,
       (λ x. rw sub-zero (enter (a .args .s) (now (a .args .store)) (a .args .t) (l .loop .inv .1 x) (a .pre .0)
-          (one-of _ _ _ e (p .before .loop-test .taken)) _ _ _ (o .before .before .live-bytes .ensures)
-          (o .outline-in .ensures ∙ ap outlineIn (o .before .outline-of .ensures)) (p .place-of .ensures ∙ live-place _ _ _ e))),
+          (one-of _ _ _ e (p .before .loop-test .taken)) _ _ _ (o .before .live-bytes .ensures)
+          (o .outline-of .ensures) (p .place-of .ensures ∙ live-place _ _ _ e))),
       omega (arith, c .struct-known2 .given),
     ))
     (λ c κs. fits _ _ _ _ (c .before .loop2 .inv .1 0 .ahead) (omega arith))
@@ -55,7 +54,7 @@ list-records-spec = tie.close (tie.spec
     ))
     (λ c. search needs) (λ c. search needs)
     (λ c. let l = c .before .loop2 .inv in (
-      l .0 ∙ c .before .before .before .before .before .before .before .before .loop .inv .0,
+      l .0 ∙ c .before .before .before .before .before .before .before .loop .inv .0,
       λ x. ⊎-elim
           (λ w. leave _ _ _ (l .1 x) (omega arith))
           (λ w. absurd (never _ _ _ _ (l .1 x .ahead) (omega arith) (at-no _ _ _ (w .1 .ensures) _ (w .3 .given .1))))
