@@ -8,20 +8,38 @@ use Rattle.cds.proofs.Onward.{low, onward}
 use Rattle.cds.proofs.past_carriers.Statement.{statement}
 use Rattle.cds.proofs.past_carriers.Tie as tie
 
+abbrev Inv-loop : tie.InvT-loop
+Inv-loop b at₀ index₀ left₀ at index left = Reaches cds b at₀ index₀ left₀ at index left
+
+abbrev μ-loop : tie.MeasureT-loop
+μ-loop b at₀ index₀ left₀ at index left = left
+
+loop-holds : tie.Need-loop-holds Inv-loop μ-loop
+unfolding byte
+loop-holds c = begin cds (c .skim .ensures .within) (search needs)
+
+loop-again : tie.Need-loop-again Inv-loop μ-loop
+unfolding byte
+loop-again c =
+    let f = c .before .before .before .before in
+    onward _ _ (f .carriers-step .ensures) (c .before .before .next .given .1) (f .before .before .loop .inv) (f .before .loop-test .taken) _
+    (rw (c .byte .ensures))
+
+returns : tie.Need-returns Inv-loop μ-loop
+unfolding byte
+returns c =
+    let f = c .before .before .before in
+    let w = f .before .before in
+    joined cds (w .before .skim .ensures) (stop cds _ _ (f .carriers-step .ensures) (w .loop .inv) (f .before .loop-test .taken) (c .before .next2 .given .1))
+
+returns-2 : tie.Need-returns-2 Inv-loop μ-loop
+unfolding byte
+returns-2 c =
+    joined cds (c .before .before .skim .ensures) (end cds (c .before .loop .inv) (omega (arith, c .loop-test .left)))
+
 pub past-carriers-spec : {M : Type 1} → statement M
 unfolding byte
-past-carriers-spec = tie.close (tie.spec
-    (λ b at₀ index₀ left₀ at index left. Reaches cds b at₀ index₀ left₀ at index left)
-    (λ b at₀ index₀ left₀ at index left. left) (λ c κs. search needs)
-    (λ c. begin cds (c .skim .ensures .within) (search needs))
-    (λ c κs. search needs) (λ c. search needs) (λ c κs. search needs) (λ c. search needs)
+past-carriers-spec = tie.close (tie.spec Inv-loop μ-loop (λ c κs. search needs) loop-holds (λ c κs. search needs) (λ c. search needs)
+    (λ c κs. search needs) (λ c. search needs)
     (λ c. omega (arith, c .byte .ensures, low _ _ (c .before .before .before .before .carriers-step .ensures) (c .before .before .next .given .1)))
-    (λ c. search needs) (λ c. search needs)
-    (λ c. let f = c .before .before .before .before in
-    onward _ _ (f .carriers-step .ensures) (c .before .before .next .given .1) (f .before .before .loop .inv) (f .before .loop-test .taken) _
-    (rw (c .byte .ensures)))
-    (λ c. search needs)
-    (λ c. let f = c .before .before .before in
-    let w = f .before .before in
-    joined cds (w .before .skim .ensures) (stop cds _ _ (f .carriers-step .ensures) (w .loop .inv) (f .before .loop-test .taken) (c .before .next2 .given .1)))
-    (λ c. joined cds (c .before .before .skim .ensures) (end cds (c .before .loop .inv) (omega (arith, c .loop-test .left)))))
+    (λ c. search needs) (λ c. search needs) loop-again (λ c. search needs) returns returns-2)

@@ -8,18 +8,31 @@ use Rattle.mms.proofs.Onward.{low, onward}
 use Rattle.mms.proofs.past_modes.Statement.{statement}
 use Rattle.mms.proofs.past_modes.Tie as tie
 
-pub past-modes-spec : {M : Type 1} → statement M
-past-modes-spec = tie.close (tie.spec
-    (λ b at₀ index₀ left₀ at index left. Reaches mms b at₀ index₀ left₀ at index left)
-    (λ b at₀ index₀ left₀ at index left. left) (λ c κs. search needs)
-    (λ c. begin mms (c .skim .ensures .within) (search needs))
-    (λ c κs. search needs) (λ c. search needs)
-    (λ c. omega (arith, low _ _ (c .before .before .before .mode-step .ensures) (c .before .next .given .1)))
-    (λ c. search needs) (λ c. search needs)
-    (λ c. let f = c .before .before .before in
-    onward _ _ (f .mode-step .ensures) (c .before .next .given .1) (f .before .before .loop .inv) (f .before .loop-test .taken))
-    (λ c. search needs)
-    (λ c. let f = c .before .before .before in
+abbrev Inv-loop : tie.InvT-loop
+Inv-loop b at₀ index₀ left₀ at index left = Reaches mms b at₀ index₀ left₀ at index left
+
+abbrev μ-loop : tie.MeasureT-loop
+μ-loop b at₀ index₀ left₀ at index left = left
+
+loop-holds : tie.Need-loop-holds Inv-loop μ-loop
+loop-holds c = begin mms (c .skim .ensures .within) (search needs)
+
+loop-again : tie.Need-loop-again Inv-loop μ-loop
+loop-again c =
+    let f = c .before .before .before in
+    onward _ _ (f .mode-step .ensures) (c .before .next .given .1) (f .before .before .loop .inv) (f .before .loop-test .taken)
+
+returns : tie.Need-returns Inv-loop μ-loop
+returns c =
+    let f = c .before .before .before in
     let w = f .before .before in
-    joined mms (w .before .skim .ensures) (stop mms _ _ (f .mode-step .ensures) (w .loop .inv) (f .before .loop-test .taken) (c .before .next2 .given .1)))
-    (λ c. joined mms (c .before .before .skim .ensures) (end mms (c .before .loop .inv) (omega (arith, c .loop-test .left)))))
+    joined mms (w .before .skim .ensures) (stop mms _ _ (f .mode-step .ensures) (w .loop .inv) (f .before .loop-test .taken) (c .before .next2 .given .1))
+
+returns-2 : tie.Need-returns-2 Inv-loop μ-loop
+returns-2 c =
+    joined mms (c .before .before .skim .ensures) (end mms (c .before .loop .inv) (omega (arith, c .loop-test .left)))
+
+pub past-modes-spec : {M : Type 1} → statement M
+past-modes-spec = tie.close (tie.spec Inv-loop μ-loop (λ c κs. search needs) loop-holds (λ c κs. search needs) (λ c. search needs)
+    (λ c. omega (arith, low _ _ (c .before .before .before .mode-step .ensures) (c .before .next .given .1))) (λ c. search needs) (λ c. search needs)
+    loop-again (λ c. search needs) returns returns-2)

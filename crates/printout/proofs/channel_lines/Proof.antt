@@ -7,25 +7,34 @@ use Rattle.printout.proofs.Laws.{blank, no-lines-of, none-written, all-
 use Rattle.printout.proofs.channel_lines.Statement.{statement}
 use Rattle.printout.proofs.channel_lines.Tie as tie
 
-pub channel-lines-spec : {M : Type 1} → statement M
-channel-lines-spec = tie.close (tie.spec (λ c κs. search needs)
-    (λ c. none-written _ _ _ (no-lines-of _ _ _ (c .before .check .ensures) (c .if1 .taken)))
-    (λ c. search needs)
-    (λ c κs. let f = c .before in (searchable _ _ (sym (f .before .check .ensures) ∙ f .if1 .left) Dcm refl, blank 4096 _ refl))
-    (λ c. search needs)
-    (λ c κs. let f = c .before .before .before .before in (searchable _ _ (sym (f .before .check .ensures) ∙ f .if1 .left) Vcm refl, blank 4096 _ refl))
-    (λ c. search needs)
-    (λ c κs. let f = c .before .before .before .before .before .before .before in (
+returns : tie.Need-returns
+returns c = none-written _ _ _ (no-lines-of _ _ _ (c .before .check .ensures) (c .if1 .taken))
+
+list-records-requires : tie.Need-list-records-requires
+list-records-requires c κs =
+    let f = c .before in (searchable _ _ (sym (f .before .check .ensures) ∙ f .if1 .left) Dcm refl, blank 4096 _ refl)
+
+list-records-requires-2 : tie.Need-list-records-requires-2
+list-records-requires-2 c κs =
+    let f = c .before .before .before .before in (searchable _ _ (sym (f .before .check .ensures) ∙ f .if1 .left) Vcm refl, blank 4096 _ refl)
+
+list-records-requires-3 : tie.Need-list-records-requires-3
+list-records-requires-3 c κs =
+    let f = c .before .before .before .before .before .before .before in (
       searchable _ _ (sym (f .before .check .ensures) ∙ f .if1 .left) Cds refl,
       blank 256 _ refl,
-    ))
-    (λ c. search needs)
-    (λ c κs. let f = c .before .before .before .before .before .before .before .before .before .before in (
+    )
+
+list-records-requires-4 : tie.Need-list-records-requires-4
+list-records-requires-4 c κs =
+    let f = c .before .before .before .before .before .before .before .before .before .before in (
       searchable _ _ (sym (f .before .check .ensures) ∙ f .if1 .left) Mms refl,
       blank 256 _ refl,
-    ))
-    (λ c. search needs) (λ c. search needs) (λ c. search needs) (λ c. search needs)
-    (λ c κs. let m = c .before .before .before .before .before .before in
+    )
+
+listed-lines-requires : tie.Need-listed-lines-requires
+listed-lines-requires c κs =
+    let m = c .before .before .before .before .before .before in
     let k = m .before .before .before in
     let v = k .before .before .before in
     let d = v .before .before .before in
@@ -40,5 +49,12 @@ channel-lines-spec = tie.close (tie.spec (λ c κs. search needs)
         },
         search needs,
       ),
-    ))
-    (λ c. all-written _ _ _ _ 4096 (c .listed-lines .result) refl (c .listed-lines .ensures)))
+    )
+
+returns-2 : tie.Need-returns-2
+returns-2 c = all-written _ _ _ _ 4096 (c .listed-lines .result) refl (c .listed-lines .ensures)
+
+pub channel-lines-spec : {M : Type 1} → statement M
+channel-lines-spec = tie.close (tie.spec (λ c κs. search needs) returns (λ c. search needs) list-records-requires (λ c. search needs)
+    list-records-requires-2 (λ c. search needs) list-records-requires-3 (λ c. search needs) list-records-requires-4 (λ c. search needs)
+    (λ c. search needs) (λ c. search needs) (λ c. search needs) listed-lines-requires returns-2)

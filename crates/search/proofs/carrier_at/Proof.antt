@@ -7,11 +7,14 @@ use Rattle.search.proofs.Named.{no-entry, an-entry}
 use Rattle.search.proofs.carrier_at.Statement.{statement}
 use Rattle.search.proofs.carrier_at.Tie as tie
 
-pub carrier-at-spec : {M : Type 1} → statement M
+returns : tie.Need-returns
 unfolding carrierFound cds
-carrier-at-spec = tie.close (tie.spec (λ c. rw (no-entry Cds _ _ (c .if1 .taken))) (λ c κs. search needs) (λ c κs. search needs) (λ c κs. search needs)
-    (λ c. search needs) (λ c. search needs) (λ c κs. search needs) (λ c κs. search needs)
-    (λ c. let f = c .before .before in
+returns c = rw (no-entry Cds _ _ (c .if1 .taken))
+
+returns-2 : tie.Need-returns-2
+unfolding carrierFound cds
+returns-2 c =
+    let f = c .before .before in
     rw (
       c .carrier-khz .ensures,
       c .before .beyond .ensures,
@@ -19,4 +22,9 @@ carrier-at-spec = tie.close (tie.spec (λ c. rw (no-entry Cds _ _ (c .if1 .taken
       f .before .part .ensures,
       f .before .before .place-in .ensures,
       an-entry Cds _ _ (f .before .before .before .if1 .left),
-    )))
+    )
+
+pub carrier-at-spec : {M : Type 1} → statement M
+unfolding carrierFound cds
+carrier-at-spec = tie.close (tie.spec returns (λ c κs. search needs) (λ c κs. search needs) (λ c κs. search needs) (λ c. search needs)
+    (λ c. search needs) (λ c κs. search needs) (λ c κs. search needs) returns-2)

@@ -13,16 +13,25 @@ use Rattle.search.proofs.Entries.{Outside, Inside, set-out, none-left, 
 use Rattle.search.proofs.carrier_entry.Statement.{statement}
 use Rattle.search.proofs.carrier_entry.Tie as tie
 
-pub carrier-entry-spec : {M : Type 1} → statement M
-carrier-entry-spec = tie.close (tie.spec
-    (λ s store number h sections i start b walk at₀ index₀ k₀ k-end at index k.
-    Inside s store Cds number (walk .included) start i (k-end - k) index b at (entryOf s store Cds number) × (index ≤ 65535 + 255 * k))
-    (λ s store number h sections i start b walk at₀ index₀ k₀ k-end at index k. k-end - k)
-    (λ s store number h sections i₀ i. Outside s store Cds number i (entryOf s store Cds number))
-    (λ s store number h sections i₀ i. sections - i)
-    (λ c κs. search needs) (λ c. search needs) (λ c. search needs) (λ c. set-out _ _ _ _) (λ c. search needs) (λ c κs. search needs) (λ c. search needs)
-    (λ c κs. search needs) (λ c κs. search needs) (λ c κs. search needs) (λ c. search needs)
-    (λ c. let o = c .before in
+abbrev Inv-loop2 : tie.InvT-loop2
+Inv-loop2 s store number h sections i start b walk at₀ index₀ k₀ k-end at index k =
+    Inside s store Cds number (walk .included) start i (k-end - k) index b at (entryOf s store Cds number) × (index ≤ 65535 + 255 * k)
+
+abbrev μ-loop2 : tie.MeasureT-loop2
+μ-loop2 s store number h sections i start b walk at₀ index₀ k₀ k-end at index k = k-end - k
+
+abbrev Inv-loop : tie.InvT-loop
+Inv-loop s store number h sections i₀ i = Outside s store Cds number i (entryOf s store Cds number)
+
+abbrev μ-loop : tie.MeasureT-loop
+μ-loop s store number h sections i₀ i = sections - i
+
+loop-holds : tie.Need-loop-holds Inv-loop2 μ-loop2 Inv-loop μ-loop
+loop-holds c = set-out _ _ _ _
+
+loop2-holds : tie.Need-loop2-holds Inv-loop2 μ-loop2 Inv-loop μ-loop
+loop2-holds c =
+    let o = c .before in
     let p = o .before .before .before in
     let l = p .before .before in
     let g = l .before .before in
@@ -32,23 +41,28 @@ carrier-entry-spec = tie.close (tie.spec
           (one-of _ _ _ e (p .before .loop-test .taken)) _ _ _ (o .before .before .live-bytes .ensures)
           (o .outline-in .ensures ∙ ap outlineIn (o .before .outline .ensures)) (p .place-of .ensures ∙ live-place _ _ _ e)),
       omega (arith, c .struct-known2 .given),
-    ))
-    (λ c κs. fits _ _ _ _ (c .before .loop2 .inv .0) (omega arith))
-    (λ c. search needs) (λ c. search needs) (λ c κs. search needs) (λ c κs. search needs)
-    (λ c. let w = c .before .before .before .before .before .before .before in
-    omega (arith, small _ _ _ _ (w .before .loop2 .inv .0) (omega (arith, w .loop2-test .taken))))
-    (λ c κs. let w = c .before .before .before .before .before .before .before in
-    omega (arith, small _ _ _ _ (w .before .loop2 .inv .0) (omega (arith, w .loop2-test .taken))))
-    (λ c. let f = c .before .before in
+    )
+
+past-record-requires : tie.Need-past-record-requires Inv-loop2 μ-loop2 Inv-loop μ-loop
+past-record-requires c κs = fits _ _ _ _ (c .before .loop2 .inv .0) (omega arith)
+
+entry-at-requires : tie.Need-entry-at-requires Inv-loop2 μ-loop2 Inv-loop μ-loop
+entry-at-requires c κs =
+    let w = c .before .before .before .before .before .before .before in
+    omega (arith, small _ _ _ _ (w .before .loop2 .inv .0) (omega (arith, w .loop2-test .taken)))
+
+returns : tie.Need-returns Inv-loop2 μ-loop2 Inv-loop μ-loop
+returns c =
+    let f = c .before .before in
     let p = f .before .before .before .before .before in
     let w = p .before in
     let g = at-got _ _ _ (p .past-record .ensures) _ (f .before .before .before .next .given .1) .1 in
     c .entry-at .ensures ∙ match _ _ _ _ (w .before .loop2 .inv .0) _ (omega (arith, w .loop2-test .taken))
-    (rw (f .before .span-of .ensures) at (sym (f .covered .ensures) ∙ c .before .if1 .taken)) g)
-    (λ c. search needs)
-    (λ c. let w = c .before .before .before .before .before .before .before .before .before in omega (arith, w .loop2 .inv .1))
-    (λ c. search needs) (λ c. search needs)
-    (λ c. let f = c .before .before in
+    (rw (f .before .span-of .ensures) at (sym (f .covered .ensures) ∙ c .before .if1 .taken)) g
+
+loop2-again : tie.Need-loop2-again Inv-loop2 μ-loop2 Inv-loop μ-loop
+loop2-again c =
+    let f = c .before .before in
     let p = f .before .before .before .before .before in
     let w = p .before in
     let g = at-got _ _ _ (p .past-record .ensures) _ (f .before .before .before .next .given .1) .1 in
@@ -58,11 +72,27 @@ carrier-entry-spec = tie.close (tie.spec
         w .loop2-test .taken,
       )) refl (ap (λ (x : Span). x .takes) e) g (rw e at (sym (f .covered .ensures) ∙ c .before .if1 .left)),
       omega (arith, w .before .loop2 .inv .1),
-    ))
-    (λ c. let l = c .before .before .before .before .before .before .before in omega (arith, l .loop-test .taken, l .before .before .struct-known .given))
-    (λ c. search needs)
-    (λ c. ⊎-elim
+    )
+
+loop-again : tie.Need-loop-again Inv-loop2 μ-loop2 Inv-loop μ-loop
+loop-again c =
+    ⊎-elim
     (λ w. go-out _ _ _ _ (c .before .loop2 .inv .0) (omega arith))
     (λ w. absurd (never _ _ _ _ (c .before .loop2 .inv .0) (omega arith) (at-no _ _ _ (w .1 .ensures) _ (w .3 .given .1))))
-    (c .loop2-test .came))
-    (λ c. none-left _ _ _ _ (c .before .loop .inv) (behind-all _ _ _ (c .before .before .before .holding-of .ensures) (c .loop-test .left))))
+    (c .loop2-test .came)
+
+returns-2 : tie.Need-returns-2 Inv-loop2 μ-loop2 Inv-loop μ-loop
+returns-2 c =
+    none-left _ _ _ _ (c .before .loop .inv) (behind-all _ _ _ (c .before .before .before .holding-of .ensures) (c .loop-test .left))
+
+pub carrier-entry-spec : {M : Type 1} → statement M
+carrier-entry-spec = tie.close (tie.spec Inv-loop2 μ-loop2 Inv-loop μ-loop (λ c κs. search needs) (λ c. search needs) (λ c. search needs) loop-holds
+    (λ c. search needs) (λ c κs. search needs) (λ c. search needs) (λ c κs. search needs) (λ c κs. search needs) (λ c κs. search needs)
+    (λ c. search needs) loop2-holds past-record-requires (λ c. search needs) (λ c. search needs) (λ c κs. search needs) (λ c κs. search needs)
+    (λ c. let w = c .before .before .before .before .before .before .before in
+    omega (arith, small _ _ _ _ (w .before .loop2 .inv .0) (omega (arith, w .loop2-test .taken))))
+    entry-at-requires returns (λ c. search needs)
+    (λ c. let w = c .before .before .before .before .before .before .before .before .before in omega (arith, w .loop2 .inv .1)) (λ c. search needs)
+    (λ c. search needs) loop2-again
+    (λ c. let l = c .before .before .before .before .before .before .before in omega (arith, l .loop-test .taken, l .before .before .struct-known .given))
+    (λ c. search needs) loop-again returns-2)

@@ -21,13 +21,19 @@ returns-3 c =
     read-told _ (c .content-of .ensures ∙ reads-content _
     (whole-so _ (cc) (cc) (cc) (ap (λ (x : ℕ). x % 32) (sym (c .before .before .before .byte2 .ensures)) ∙ c .before .before .if4 .left)))
 
+returns : tie.Need-returns
+returns c = read-told _ (reads-no _ _ (whole-spoilt _ (cc) (cc) (λ z. c .if3 .taken (c .before .crc .ensures ∙ z))))
+
+returns-2 : tie.Need-returns-2
+returns-2 c =
+    read-told _ (reads-no _ _ (whole-newer _ (cc) (cc) (cc) (λ z. c .if4 .taken (ap (λ (x : ℕ). x % 32) (c .before .byte2 .ensures) ∙ z))))
+
+returns-4 : tie.Need-returns-4
+returns-4 c = read-told _ (reads-no _ _ (whole-other _ (cc) (cc)))
+
+returns-5 : tie.Need-returns-5
+returns-5 c = read-told _ (reads-no _ _ (whole-unfit _ (cc)))
+
 pub read-section-spec : {M : Type 1} → statement M
-read-section-spec = tie.close (tie.spec (λ c κs. search needs) (λ c κs. search needs) (λ c κs. search needs) (λ c κs. search needs)
-    (λ c. read-told _ (reads-no _ _ (whole-spoilt _ (cc) (cc) (λ z. c .if3 .taken (c .before .crc .ensures ∙ z)))))
-    (λ c κs. search needs)
-    (λ c. read-told _ (reads-no _ _ (whole-newer _ (cc) (cc) (cc) (λ z. c .if4 .taken (ap (λ (x : ℕ). x % 32) (c .before .byte2 .ensures) ∙ z)))))
-    sub-content-of
-    (λ c. sym (length-take-le _ _ (omega arith)))
-    (λ c κs. search needs) returns-3
-    (λ c. read-told _ (reads-no _ _ (whole-other _ (cc) (cc))))
-    (λ c. read-told _ (reads-no _ _ (whole-unfit _ (cc)))))
+read-section-spec = tie.close (tie.spec (λ c κs. search needs) (λ c κs. search needs) (λ c κs. search needs) (λ c κs. search needs) returns
+    (λ c κs. search needs) returns-2 sub-content-of (λ c. sym (length-take-le _ _ (omega arith))) (λ c κs. search needs) returns-3 returns-4 returns-5)

@@ -19,4 +19,5 @@ find-carrier-spec = tie.close (tie.spec (λ c. search needs) (λ c. search needs
     (λ c κs. let f = c .before .before .before in searchable (f .args .s) (now (f .args .store)) (f .pre .0) Cds refl)
     (λ c κs. search needs)
     (λ c. let f = c .before .before .before .before .before in
-    c .carrier-at2 .ensures ∙ ap (carrierFound _) (found-by (f .args .s) (now (f .args .store)) (f .pre .0) Cds refl (f .args .index) (c .before .carrier-entry .ensures))))
+    c .carrier-at2 .ensures ∙ ap (carrierFound _)
+    (found-by (f .args .s) (now (f .args .store)) (f .pre .0) Cds refl (f .args .index) (c .before .carrier-entry .ensures))))

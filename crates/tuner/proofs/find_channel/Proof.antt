@@ -19,4 +19,5 @@ find-channel-spec = tie.close (tie.spec (λ c. search needs) (λ c. search needs
     (λ c κs. let f = c .before .before .before in searchable (f .args .s) (now (f .args .store)) (f .pre .0) Vcm refl)
     (λ c κs. search needs)
     (λ c. let f = c .before .before .before .before .before in
-    c .channel-at2 .ensures ∙ ap channelFound (found-by (f .args .s) (now (f .args .store)) (f .pre .0) Vcm refl (f .args .number) (c .before .channel-entry .ensures))))
+    c .channel-at2 .ensures ∙ ap channelFound
+    (found-by (f .args .s) (now (f .args .store)) (f .pre .0) Vcm refl (f .args .number) (c .before .channel-entry .ensures))))

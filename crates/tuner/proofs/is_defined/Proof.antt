@@ -18,4 +18,5 @@ is-defined-spec = tie.close (tie.spec (λ c. search needs) (λ c. search needs) 
     (λ c κs. let f = c .before .before .before in searchable (f .args .s) (now (f .args .store)) (f .pre .0) Dcm refl)
     (λ c κs. search needs)
     (λ c. let f = c .before .before .before .before .before in
-    c .defined-at2 .ensures ∙ ap definedBy (found-by (f .args .s) (now (f .args .store)) (f .pre .0) Dcm refl (f .args .number) (c .before .range-entry .ensures))))
+    c .defined-at2 .ensures ∙ ap definedBy
+    (found-by (f .args .s) (now (f .args .store)) (f .pre .0) Dcm refl (f .args .number) (c .before .range-entry .ensures))))

@@ -15,9 +15,9 @@ use Rattle.tuner.proofs.tune.Tie as tie
 none-listed : (s : State) (store : List ℕ) (t : Table) (entries : List ℕ) → length entries ≡ 0 → Lists s store t entries
 none-listed s store t entries e = record { is = λ n h. absurd (omega (arith, h, e)) }
 
-pub tune-spec : {M : Type 1} → statement M
-tune-spec = tie.close (tie.spec (λ c κs. search needs) (λ c. search needs) (λ c. search needs) (λ c. search needs) (λ c. search needs)
-    (λ c κs. let f = c .before .before .before .before in (
+look-up-requires : tie.Need-look-up-requires
+look-up-requires c κs =
+    let f = c .before .before .before .before in (
       sym (f .before .check .ensures) ∙ f .if1 .taken,
       record {
         ranges-listed = none-listed _ _ _ _ refl;
@@ -25,9 +25,24 @@ tune-spec = tie.close (tie.spec (λ c κs. search needs) (λ c. search needs) (�
         carriers-listed = none-listed _ _ _ _ refl;
         modes-listed = none-listed _ _ _ _ refl;
       },
-    ))
-    (λ c. tune-told _ _ _ (c .look-up .ensures))
-    (λ c. tune-told _ _ _ (refused-early _ _ _ _ (c .before .before .check .ensures) (c .before .if1 .left) (c .if2 .taken)))
-    (λ c. tune-told _ _ _ (refused-high _ _ _ _ (c .before .before .before .check .ensures) (c .before .if2 .left) (c .if3 .taken)))
-    (λ c. tune-told _ _ _ (refused-late _ _ _ _ (c .before .before .before .check .ensures) (c .before .before .if1 .left) (c .before .if2 .left)
-    (c .if3 .left))))
+    )
+
+returns : tie.Need-returns
+returns c = tune-told _ _ _ (c .look-up .ensures)
+
+returns-2 : tie.Need-returns-2
+returns-2 c =
+    tune-told _ _ _ (refused-early _ _ _ _ (c .before .before .check .ensures) (c .before .if1 .left) (c .if2 .taken))
+
+returns-3 : tie.Need-returns-3
+returns-3 c =
+    tune-told _ _ _ (refused-high _ _ _ _ (c .before .before .before .check .ensures) (c .before .if2 .left) (c .if3 .taken))
+
+returns-4 : tie.Need-returns-4
+returns-4 c =
+    tune-told _ _ _ (refused-late _ _ _ _ (c .before .before .before .check .ensures) (c .before .before .if1 .left) (c .before .if2 .left)
+    (c .if3 .left))
+
+pub tune-spec : {M : Type 1} → statement M
+tune-spec = tie.close (tie.spec (λ c κs. search needs) (λ c. search needs) (λ c. search needs) (λ c. search needs) (λ c. search needs)
+    look-up-requires returns returns-2 returns-3 returns-4)

@@ -8,14 +8,28 @@ use Rattle.vcm.proofs.Onward.{onward}
 use Rattle.vcm.proofs.past_channels.Statement.{statement}
 use Rattle.vcm.proofs.past_channels.Tie as tie
 
+abbrev Inv-loop : tie.InvT-loop
+Inv-loop b o at₀ left₀ at left = Reaches (vcm (o .included)) b (o .at) (o .first) (o .count) at (o .first) left
+
+abbrev μ-loop : tie.MeasureT-loop
+μ-loop b o at₀ left₀ at left = left
+
+loop-holds : tie.Need-loop-holds Inv-loop μ-loop
+loop-holds c = c .skim .ensures
+
+loop-again : tie.Need-loop-again Inv-loop μ-loop
+loop-again c =
+    let f = c .before .before .before in
+    onward _ _ _ (f .channel-step .ensures _) (c .before .next .given .1) (f .before .before .loop .inv) (f .before .loop-test .taken)
+
+returns : tie.Need-returns Inv-loop μ-loop
+returns c =
+    let f = c .before .before .before in
+    stop (vcm _) _ _ (f .channel-step .ensures _) (f .before .before .loop .inv) (f .before .loop-test .taken) (c .before .next2 .given .1)
+
+returns-2 : tie.Need-returns-2 Inv-loop μ-loop
+returns-2 c = end (vcm _) (c .before .loop .inv) (omega (arith, c .loop-test .left))
+
 pub past-channels-spec : {M : Type 1} → statement M
-past-channels-spec = tie.close (tie.spec
-    (λ b o at₀ left₀ at left. Reaches (vcm (o .included)) b (o .at) (o .first) (o .count) at (o .first) left)
-    (λ b o at₀ left₀ at left. left) (λ c κs. search needs) (λ c. c .skim .ensures) (λ c κs. search needs) (λ c. search needs) (λ c. search needs)
-    (λ c. search needs)
-    (λ c. let f = c .before .before .before in
-    onward _ _ _ (f .channel-step .ensures _) (c .before .next .given .1) (f .before .before .loop .inv) (f .before .loop-test .taken))
-    (λ c. search needs)
-    (λ c. let f = c .before .before .before in
-    stop (vcm _) _ _ (f .channel-step .ensures _) (f .before .before .loop .inv) (f .before .loop-test .taken) (c .before .next2 .given .1))
-    (λ c. end (vcm _) (c .before .loop .inv) (omega (arith, c .loop-test .left))))
+past-channels-spec = tie.close (tie.spec Inv-loop μ-loop (λ c κs. search needs) loop-holds (λ c κs. search needs) (λ c. search needs)
+    (λ c. search needs) (λ c. search needs) loop-again (λ c. search needs) returns returns-2)
