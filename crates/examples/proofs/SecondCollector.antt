@@ -11,7 +11,8 @@ use borrow.Author.Tests.{leb-true, eqb-true, ltb-false}
 use Rattle.rules.specs.Bytes.{byte}
 use Rattle.rules.specs.Section.{ReadingOf, wrong, right, lengthOf}
 use Rattle.rules.specs.Steps.{freshHolding, holdingFormed}
-use Rattle.rules.specs.Gathering.{Collector, BoxOf, placeOf, storeSize, answers, run}
+use Rattle.rules.specs.Formed.{Formed}
+use Rattle.rules.specs.Gathering.{Collector, BoxOf, placeOf, storeSize, sectionAt, liveAt, answers, run}
 use Rattle.rules.specs.Offering.{Promised, Wanted, NoneOther}
 use Rattle.rules.specs.declared.Holding.{Holding}
 use Rattle.rules.specs.declared.Revision.{Revision}
@@ -20,6 +21,7 @@ use Rattle.rules.proofs.Hex.{hex}
 use Rattle.rules.proofs.Computed.{computed}
 use Rattle.rules.proofs.Truths.{both-left, both-right}
 use Rattle.rules.proofs.Right.{one-right, not-right}
+use Rattle.rules.proofs.{Formed.formed, Formed.forms}
 use Rattle.rules.proofs.Lawful.{Fits, Lawful}
 use Rattle.rules.proofs.Gathers.{Gathers, gathers}
 
@@ -65,10 +67,12 @@ second =
       with = λ s t h. record { map = s .map; limit = s .limit; held = h };
       limit = λ s. s .limit;
       formed = λ s. holdingFormed (s .limit) (s .held);
+      Formed = λ s. Formed (s .limit) (s .held);
       read = λ s section. readPage section;
       table = λ c. only;
       revision = λ c. c .revision;
       aside = otherPage;
+      Aside = λ s c. otherPage s c ≡ true;
       word = λ s c. OtherMap;
     }
 
@@ -108,9 +112,13 @@ second-lawful =
       with-limit = λ s t h. refl;
       with-read = λ s t h section. refl;
       with-aside = with-aside;
+      formed-says = λ s. formed (s .limit) (s .held);
+      formed-so = λ s. forms (s .limit) (s .held);
       table-formed = λ s t e. e;
       with-formed = λ s t h e f. f;
       reads-right = λ s. fits;
+      aside-says = λ s c e. e;
+      aside-so = λ s c e. e;
       word-out = λ s c. refl;
     }
 
@@ -142,8 +150,21 @@ pub record SecondComputed : Type 0 where
       ∷ hex "01 00 04 07 06 00 00"
       ∷ [])
       ≡ Stored 5 ∷ OtherMap ∷ Repeat ∷ Stored 4 ∷ Refused 12 ∷ Live 6 ∷ []
+  -- which section is live: the first since its gathering began. Version 5 is gathered, dropped for 6, and begun again; of its number 0 four came
+  pub first-since :
+      (let b = run second (freshSecond 49152)
+      (hex "01 00 05 07 05 00 01 AA"
+      ∷ hex "01 00 05 07 05 00 01 BB"
+      ∷ hex "01 00 05 07 06 00 01 66"
+      ∷ hex "01 00 05 07 05 00 01 CC"
+      ∷ hex "01 00 05 07 05 00 01 DD"
+      ∷ hex "01 00 05 07 05 01 01 EE"
+      ∷ hex "01 00 05 07 05 00 01 FF"
+      ∷ []) in
+      sectionAt second (b .store) (liveAt second (b .state) only 0) ∷ sectionAt second (b .store) (liveAt second (b .state) only 1) ∷ [])
+      ≡ hex "01 00 05 07 05 00 01 CC" ∷ hex "01 00 05 07 05 01 01 EE" ∷ []
   pub short : answers second (freshSecond 49151) (hex "01 00 04 07 06 00 00" ∷ []) ≡ Refused 1 ∷ []
 
 pub second-computed : SecondComputed
 unfolding computed pageFits page readPage otherPage
-second-computed = record { places = refl; offers = refl; short = refl }
+second-computed = record { places = refl; offers = refl; first-since = refl; short = refl }

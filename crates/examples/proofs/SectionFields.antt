@@ -11,7 +11,7 @@ use Rattle.rules.specs.Tables.{carriersZeros, carriersOf, carrierKhz, modeZeros
 use Rattle.rules.specs.Tables.{channelOf, dcmHeadZeros, dcmHeadOf, rangeOf}
 use Rattle.rules.specs.Form.{form}
 use Rattle.rules.specs.Meaning.{Meaning, meant}
-use Rattle.rules.specs.Section.{Structure, Reading, wrong, right, content, withoutCrc, read, readAs, askedOf, partOf}
+use Rattle.rules.specs.Section.{Structure, Reading, wrong, right, content, withoutCrc, read, readAs, askedOf, partOf, partAt}
 use Rattle.rules.specs.declared.Table.{Table}
 use Rattle.rules.specs.declared.Table.the-variants.{Cds, Mms, Vcm, Dcm}
 use Rattle.rules.specs.declared.Carriers.{Carriers}
@@ -182,6 +182,10 @@ pub record SectionFields : Type 0 where
       map (λ tag. partOf askedSection (askedOf tag askedSection (behind askedSection))) (0x93 ∷ 0x80 ∷ 0x81 ∷ 0x82 ∷ [])
       ≡ hex "E5 00 00 FF" ∷ hex "AA BB" ∷ [] ∷ [] ∷ []
   pub asked-refused : partOf (hex "C2 30 0F") (askedOf 0x80 (hex "C2 30 0F") (wrong 3)) ≡ []
+  pub asked-places :
+      map (λ tag. partAt (askedOf tag askedSection (behind askedSection))) (0x93 ∷ 0x80 ∷ 0x81 ∷ 0x82 ∷ [])
+      ≡ 13 ∷ 9 ∷ 19 ∷ 0 ∷ []
+  pub refused-place : partAt (askedOf 0x80 (hex "C2 30 0F") (wrong 3)) ≡ 0
   -- ---- the CRC: its check value, that of the digits 1 to 9, and the bits of a byte, most significant first
   pub crc : crcOf (text "123456789") ≡ 0x0376E6E7
   pub crc-bits :
@@ -247,6 +251,8 @@ section-fields =
       asked = refl;
       asked-parts = refl;
       asked-refused = refl;
+      asked-places = refl;
+      refused-place = refl;
       crc = refl;
       crc-bits = refl;
       crc-row = refl;

@@ -13,7 +13,7 @@ use Rattle.rules.specs.Steps.{noneLive, noneGathered, freshHolding, hold
 use Rattle.rules.specs.Gathering.{Collector, BoxOf, Outcome, placeOf, sectionAt, offeredAs, offered, answerTo, boxAfter, run, answers}
 use Rattle.rules.proofs.{Right.one-right, Right.not-right, Taken.differ, Held.holds-all, Formed.formed}
 use Rattle.rules.proofs.{Steps.gathered-says, Steps.held-before, Steps.taken-cases, Lawful.Lawful, Lawful.same-table, Kept.length-kept}
-use Rattle.rules.proofs.{Faithful.live-low, Faithful.gathered-low, Placed.isPlace, Placed.place-after, Truths.by-test}
+use Rattle.rules.proofs.{Formed.live-low, Faithful.gathered-low, Placed.isPlace, Placed.place-after, Truths.by-test}
 use Rattle.rules.proofs.Offers.{not-of, taken-in, untouched, reads-kept, limit-kept, formed-kept, others-kept, step-holds}
 
 -- ---- what a reading means, of which gathering looks at no more
@@ -127,7 +127,7 @@ module _ {T S C M : Type 0} (co : Collector T S C) (means : C → M) where
       empty (inr (gathered, is, held)) = omega (arith, gathered)
 
   module _ (law : Lawful co) (enough : Enough co means) where
-    open Lawful law using (table-formed)
+    open Lawful law using (formed-so, table-formed)
 
     offered-right : (s : S) (c d : C) → means c ≡ means d → offeredAs co s (right c) ≡ offeredAs co s (right d)
     unfolding offeredAs
@@ -196,7 +196,7 @@ module _ {T S C M : Type 0} (co : Collector T S C) (means : C → M) where
           let both = right-same (b .state) x y d e (k .passed .reads) (rw (a .state) at (l .passed .reads)) w in
           let lies =
           occupied-low (limitOf (boxAfter co b x .state)) (holdingOf (boxAfter co b x .state) t) half n
-          (table-formed (boxAfter co b x .state) t (formed-kept co law b x (k .passed .good))) o in
+          (table-formed (boxAfter co b x .state) t (formed-kept co law b x (formed-so (b .state) (k .passed .good)))) o in
           let low : n < limitOf (b .state) = rw (limit-kept co law b x) at (lies .1) in
           let there =
           subst (λ (z : S). sectionAt co (boxAfter co c y .store) (placeOf co (limitOf z) t half n)

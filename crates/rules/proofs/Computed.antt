@@ -12,7 +12,7 @@ use Rattle.rules.specs.Tables.{standardFair, channelFair, vcm, dcmHeadZe
 use Rattle.rules.specs.Form.{protocolZeros, countedHeader, noHead, mapHeader}
 use Rattle.rules.specs.Section.{lengthOf, hasNumber, isNumber, mediumAt, named, given, headerOf, headerBy, header, inFront, structure, revision}
 use Rattle.rules.specs.Section.{contentOf, content, fitting, withoutCrc, whole, read, readSection, checkOf, check, sizeOf, closingAt}
-use Rattle.rules.specs.Section.{headOf, readAs, firstOf, askedOf, ask, partOf}
+use Rattle.rules.specs.Section.{headOf, readAs, firstOf, askedOf, ask, partOf, partAt}
 use Rattle.rules.specs.Gathering as Gathering
 use Rattle.rules.specs.Holding.{limitOf, with, readFor, put, noneLive, noneGathered, freshHolding, fresh, holds, allOf, isLive, isGathered}
 use Rattle.rules.specs.Holding.{liveFormed, heldFormed, gatheredFormed, sameVersion, holdingFormed, wellFormed, otherLast, isRepeat, heldWith}
@@ -35,7 +35,7 @@ unfolding unless andThen giving byte from shift bitsOf shiftAll crcFrom descript
     carriersZeros carriersOf inKhz carrierKhz carriersFair cds modeZeros modeOf among systems innerCodings assigned modeFair mms vcmHeadZeros vcmHeadOf
     vcmHead transportOf channelZeros signalOf channelOf standardFair channelFair vcm dcmHeadZeros dcmHeadOf dcmHead rangeOf rangeFair dcm protocolZeros
     countedHeader noHead mapHeader lengthOf hasNumber isNumber mediumAt named given headerOf headerBy header inFront structure revision contentOf content
-    fitting withoutCrc whole read readSection checkOf check sizeOf closingAt headOf readAs firstOf askedOf ask partOf meant limitOf with readFor
+    fitting withoutCrc whole read readSection checkOf check sizeOf closingAt headOf readAs firstOf askedOf ask partOf partAt meant limitOf with readFor
     Gathering.placeOf Gathering.storeSize Gathering.sectionAt put Gathering.liveAt Gathering.gatheredAt noneLive noneGathered freshHolding fresh holds allOf
     isLive isGathered liveFormed heldFormed gatheredFormed sameVersion holdingFormed wellFormed otherLast isRepeat heldWith goneLive gathering liveOrStored
     stepOf notOurs otherMap Gathering.stepped Gathering.offeredAs Gathering.offered Gathering.touchedBy Gathering.touches Gathering.putAs

@@ -4,30 +4,26 @@ use Prim.Native.Nat.{ℕ, _+_, _-_, _<_, _≤_}
 use native.Mathlib.Omega.{arith}
 use mathlib.Core.Path.{_≡_, refl, sym, ap, _∙_}
 use mathlib.Core.{Logic._⊎_, Logic.inl, Logic.inr, Bool.Bool, Bool.true, Bool.false, List.List, List.[], List._∷_}
-use lib.Dec.{leb, eqb}
-use borrow.Author.Tests.{ltb-true, eqb-true, eqb-false, eq-eqb}
-use Rattle.rules.specs.Steps.{noneLive, noneGathered, freshHolding, holds, liveFormed, holdingFormed, heldWith, goneLive, gathering, stepOf, takesIn}
+use lib.Dec.{eqb}
+use borrow.Author.Tests.{eqb-true, eqb-false}
+use Rattle.rules.specs.Steps.{noneLive, noneGathered, freshHolding, holds, holdingFormed, heldWith, goneLive, gathering, stepOf, takesIn}
 use Rattle.rules.specs.Gathering.{Collector, BoxOf, placeOf, sectionAt, gatheredAt, answerTo, boxAfter, run}
 use Rattle.rules.specs.Offering.{Taking, TakenIn, NotOf, Wanted}
 use Rattle.rules.specs.{declared.Holding.Holding, declared.Revision.Revision}
-use Rattle.rules.proofs.{Taken.both-right, Held.all-lt, Held.holds-all, Held.held-below, Right.one-right, Truths.by-test}
-use Rattle.rules.proofs.{Formed.formed, Formed.gathered-clauses, Store.same-section, Store.section-there, Lawful.Lawful, Lawful.same-table}
+use Rattle.rules.proofs.{Held.all-lt, Held.holds-all, Held.held-below, Right.one-right, Truths.by-test}
+use Rattle.rules.proofs.{Formed.formed, Formed.live-low, Formed.gathered-clauses, Store.same-section, Store.section-there, Lawful.Lawful}
+use Rattle.rules.proofs.{Lawful.same-table, Lawful.aside-no, Lawful.no-aside}
 use Rattle.rules.proofs.Kept.{place-kept, other-places}
 use Rattle.rules.proofs.Steps.{gathered-says, gathered-last, held-before, taken-cases}
 use Rattle.rules.proofs.Offers.{not-of, taken-in, untouched, reads-kept, aside-kept, limit-kept, others-kept, step-holds}
 
 -- ---- numbers of a well-formed holding are below the limit
 
-module _ (limit : ℕ) (h : Holding) (good : holdingFormed limit h ≡ true) where
-  pub live-low : h .live .present ≡ 1 → h .live .last < limit
-  unfolding liveFormed
-  live-low e =
-      ltb-true (h .live .last) limit (both-right (leb (h .live .version) 31) _ (simp (eq-eqb (h .live .present) 1 e) at (formed limit h good .live)))
-
-  pub gathered-low : (n : ℕ) → h .gathered .present ≡ 1 → holds (h .gathered .held) n ≡ true → n < limit
-  gathered-low n e q =
-      let below = gathered-clauses limit h good e in
-      omega (arith, held-below (h .gathered .last + 1) (h .gathered .held) n (omega (arith, below .1, all-lt (h .gathered .last))) q, below .0)
+pub gathered-low : (limit : ℕ) (h : Holding) → holdingFormed limit h ≡ true → (n : ℕ) → h .gathered .present ≡ 1 → holds (h .gathered .held) n ≡ true
+    → n < limit
+gathered-low limit h good n e q =
+    let below = gathered-clauses limit h good e in
+    omega (arith, held-below (h .gathered .last + 1) (h .gathered .held) n (omega (arith, below .1, all-lt (h .gathered .last))) q, below .0)
 
 module _ {T S C : Type 0} (co : Collector T S C) where
   open Collector co using (holding as holdingOf, limit as limitOf, read as readFor, table as tableOf, revision as revisionOf, aside as setAside)
@@ -77,7 +73,7 @@ module _ {T S C : Type 0} (co : Collector T S C) where
         (λ few. record { live = live-there; gathered = λ e n q. held-there n q })
       where
         halves : h .half < 2
-        halves = formed limit h (k .ready .sound .good) .half
+        halves = omega (arith, formed limit h (k .ready .sound .good) .half)
 
         live-there : h .live .present ≡ 1 → (n : ℕ) → n ≤ h .live .last
             → Wanted co start t (h .live .version) (h .live .last) n (sectionAt co after (placeOf co limit t (h .half) n))
@@ -93,7 +89,7 @@ module _ {T S C : Type 0} (co : Collector T S C) where
       record {
         live = λ e n le.
             let low = live-low limit h good e in
-            rw (same (h .half) n (formed limit h good .half) (omega (arith, low))) (f .live e n le);
+            rw (same (h .half) n (omega (arith, formed limit h good .half)) (omega (arith, low))) (f .live e n le);
         gathered = λ e n q. rw (same (1 - h .half) n (omega arith) (gathered-low limit h good n e q)) (f .gathered e n q);
       }
 
@@ -107,7 +103,7 @@ module _ {T S C : Type 0} (co : Collector T S C) where
       none t = record { live = λ e. absurd (omega (arith, e)); gathered = λ e. absurd (omega (arith, e)) }
 
   module _ (law : Lawful co) where
-    open Lawful law using (table-formed, reads-right)
+    open Lawful law using (formed-so, table-formed, reads-right)
 
     -- ---- a box
 
@@ -134,7 +130,13 @@ module _ {T S C : Type 0} (co : Collector T S C) where
       own-table =
           faithful-taken start (limitOf s) (tableOf c) (holdingOf s (tableOf c)) (revisionOf c) (b .store) (after .store) x (k .taking)
           (section-placed b x c k) elsewhere
-          (record { content = c; reads = sym (f .reads x) ∙ k .passed .reads; ours = sym (f .aside c) ∙ k .passed .ours; table = refl; revision = refl })
+          (record {
+            content = c;
+            reads = sym (f .reads x) ∙ k .passed .reads;
+            ours = no-aside co law start c (sym (f .aside c) ∙ aside-no co law s c (k .passed .ours));
+            table = refl;
+            revision = refl;
+          })
           (f .tables (tableOf c))
         where
           elsewhere : (half n : ℕ) → half < 2 → n < limitOf s → ((half ≡ 1 - holdingOf s (tableOf c) .half) × (n ≡ revisionOf c .number) → ⊥)
@@ -152,7 +154,7 @@ module _ {T S C : Type 0} (co : Collector T S C) where
       each-table t (inr ne) =
           let other : NotOf co s t x = not-of co s x c t (k .passed .reads) ne in
           rw (limit-kept co law b x, others-kept co law b x t other)
-          (faithful-same start (b .store) (after .store) (limitOf s) t (holdingOf s t) (table-formed s t (k .passed .good))
+          (faithful-same start (b .store) (after .store) (limitOf s) t (holdingOf s t) (table-formed s t (formed-so s (k .passed .good)))
           (λ half n halves low. same-section co (after .store) (b .store) (placeOf co (limitOf s) t half n)
           (other-places co law b x t other half n halves low)) (f .tables t))
 

@@ -6,10 +6,10 @@ use lib.{ListN.length, Dec.eqb}
 use Rattle.rules.specs.{Section.right, Steps.freshHolding, Steps.takesIn, declared.Answer.Answer}
 use Rattle.rules.specs.Gathering.{Collector, BoxOf, sectionAt, liveAt, gatheredAt, answerTo, boxAfter, run, answers}
 use Rattle.rules.specs.Offering.{goesLive, SameLive, NowHas, NotOf, TakenIn, NowLive, NowHeld, New, Offering, Promised, Wanted, NoneOther}
-use Rattle.rules.specs.declared.Answer.the-variants.{Stored, Live}
-use Rattle.rules.proofs.{Lawful.Lawful, Placed.held-stays, Placed.live-sections, Placed.live-section-kept, GoingLive.goes-live}
+use Rattle.rules.specs.{Sent.SentAs, declared.Answer.the-variants.Stored, declared.Answer.the-variants.Live}
+use Rattle.rules.proofs.{Lawful.Lawful, Placed.held-stays, Placed.live-sections, Placed.live-section-kept, GoingLive.goes-live, Sent.live-sent}
 use Rattle.rules.proofs.Offers.{taken-in, untouched, went-live, live-kept, live-changes, others-kept, now-held}
-use Rattle.rules.proofs.Offering.{Told, offering, offering-only, complete-lives}
+use Rattle.rules.proofs.Offering.{offering, offering-only, complete-lives}
 use Rattle.rules.proofs.Faithful.{FaithfulBox, section-placed, faithful-run, faithful-fresh}
 use Rattle.rules.proofs.Alike.{Enough, Paired, itself, each-itself, alike-itself, fresh-alike, run-alike}
 
@@ -19,8 +19,8 @@ module _ {T S C : Type 0} (co : Collector T S C) where
   pub record Gathers : Type 1 where
     -- condition 1: the answer is the one that the checks in their order allow, and no other; what is taken in has passed them all, and every
     -- other answer changes neither state nor store
-    pub offer-checked : (b : BoxOf S) (section : List ℕ) → Offering co (λ s c. setAside s c ≡ true) b section (answerTo co b section)
-    pub offer-only : (b : BoxOf S) (section : List ℕ) (a : Answer) → Offering co (λ s c. setAside s c ≡ true) b section a → a ≡ answerTo co b section
+    pub offer-checked : (b : BoxOf S) (section : List ℕ) → Offering co b section (answerTo co b section)
+    pub offer-only : (b : BoxOf S) (section : List ℕ) (a : Answer) → Offering co b section a → a ≡ answerTo co b section
     pub taken-checked : (b : BoxOf S) (section : List ℕ) → takesIn (answerTo co b section) ≡ true → (c : C) × TakenIn co b section c
     pub others-leave : (b : BoxOf S) (section : List ℕ) → takesIn (answerTo co b section) ≡ false → boxAfter co b section ≡ b
     -- condition 2: "A version of a table goes live at the section that completes it"
@@ -56,6 +56,10 @@ module _ {T S C : Type 0} (co : Collector T S C) where
     -- of a fresh box, with any store, the places of what is live or held read as they should
     pub live-reads : (start : S) (store : List ℕ) → ((t : T) → holdingOf start t ≡ freshHolding) → (sections : List (List ℕ))
         → FaithfulBox co start (run co (record { state = start; store = store }) sections)
+    -- and each live section is a section of the run
+    pub live-was-sent : (start : BoxOf S) → ((t : T) → holdingOf (start .state) t ≡ freshHolding) → (sections : List (List ℕ)) (t : T)
+        → holdingOf (run co start sections .state) t .live .present ≡ 1 → (n : ℕ) → n ≤ holdingOf (run co start sections .state) t .live .last
+        → SentAs co start sections t n (sectionAt co (run co start sections .store) (liveAt co (run co start sections .state) t n))
     -- condition 3: sections that mean the same get the same answers and leave the same state, wherever gathering looks at no more than that (so
     -- growth changes nothing); nor does what stood in a fresh box's store matter
     pub same-run : {M : Type 0} (means : C → M) → Enough co means → (b : BoxOf S) {ss gs : List (List ℕ)} → Paired co means (b .state) ss gs
@@ -65,15 +69,11 @@ module _ {T S C : Type 0} (co : Collector T S C) where
         → (answers co (record { state = start; store = other }) sections ≡ answers co (record { state = start; store = store }) sections)
         × (run co (record { state = start; store = other }) sections .state ≡ run co (record { state = start; store = store }) sections .state)
 
-  -- step 1 by the collector's own test
-  as-tested : Told co (λ s c. setAside s c ≡ true)
-  as-tested = record { says = λ s c e. e; so = λ s c e. e }
-
   pub gathers : Lawful co → Gathers
   gathers law =
       record {
-        offer-checked = offering co law (λ s c. setAside s c ≡ true) as-tested;
-        offer-only = offering-only co law (λ s c. setAside s c ≡ true) as-tested;
+        offer-checked = offering co law;
+        offer-only = offering-only co law;
         taken-checked = taken-in co law;
         others-leave = untouched co law;
         live-completes = went-live co law;
@@ -88,6 +88,7 @@ module _ {T S C : Type 0} (co : Collector T S C) where
         other-holdings = others-kept co law;
         same-sections = live-section-kept co law;
         live-reads = λ start store fresh sections. faithful-run co law start sections _ (faithful-fresh co start store fresh);
+        live-was-sent = live-sent co law;
         same-run = λ means enough b g. let r = run-alike co means law enough b b g (alike-itself co means b) in (r .0, r .1 .state);
         any-store = λ start store other fresh e sections.
             let r = run-alike co (λ c. c) law (itself co) _ _ (each-itself co (λ c. c) start sections) (fresh-alike co (λ c. c) start store other fresh e) in

@@ -12,7 +12,7 @@ use Rattle.rules.specs.{Growth.GrownParts, Growth.Grown, declared.Table.
 use Rattle.rules.specs.Section.{Structure, revisionTag, revision, Content, right, readSection}
 use Rattle.rules.specs.Parts.{Piece, Parts, saidFront, laidOut, bytesOf, Shaped, said}
 use Rattle.rules.specs.Growth.{FullerList, empty, kept, added, GrownRevision, stays, other, revised, GrownClosing, FullerPieces, end, next}
-use Rattle.rules.proofs.{Right.formal, Right.read-from, Right.read-back, Encoded.pieces-fuller}
+use Rattle.rules.proofs.{Right.formal, Right.fitting-says, Right.fitting-so, Right.read-from, Right.read-back, Encoded.pieces-fuller}
 use Rattle.rules.proofs.InParts.{first-bytes, read-in-parts, parts-read, right-as}
 
 -- the same, with another closing list
@@ -94,7 +94,7 @@ module _ (s g : List ℕ) (w : Grown s g) where
   protocol-same : byte 3 g ≡ byte 3 s
   unfolding bytesOf byte
   protocol-same =
-      sym (first-bytes g 3 (w .fits) (omega arith)) ∙ ap (byte 3) (w .is)
+      sym (first-bytes g 3 (fitting-says g (w .fits)) (omega arith)) ∙ ap (byte 3) (w .is)
       ∙ header-first (form table) (w .before) (w .after) (omega (arith, formal table .low, formal table .high)) (w .shaped) (w .grows)
       ∙ ap (byte 3) (sym (w .was)) ∙ first-bytes s 3 (read-in-parts s (w .content) (w .reads) .fits) (omega arith)
 
@@ -107,7 +107,7 @@ module _ (s g : List ℕ) (w : Grown s g) where
         right = r .0;
         says = ap (λ (x : Structure). record { table = table; structure = x; closing = w .after .closing; revision = w .content .revision }) same;
         bytes = w .is;
-        fits = w .fits;
+        fits = fitting-says g (w .fits);
         crc = w .crc;
         protocol = ap (λ (b : ℕ). b % 32) protocol-same ∙ read-in-parts s (w .content) (w .reads) .protocol;
       })
@@ -140,6 +140,6 @@ grown-itself s c e =
       reshaped = k .right .shaped;
       grows =
           record { number = refl; zeros = refl; header = refl; head = refl; pieces = pieces-itself _; closing = closing-itself (k .parts .closing) };
-      fits = k .fits;
+      fits = fitting-so s (k .fits);
       crc = k .crc;
     }

@@ -29,6 +29,8 @@ pub mod Placed  -- what stands in the places after an offer
 pub mod LiveRecords  -- the live records of the other tables stay
 pub mod GoingLive  -- sections 0 to last, in any order
 pub mod Faithful  -- what the state says of the store is so
+pub mod Sent  -- every live section is a section of the run
+pub mod SentOnce  -- and of one place in it
 pub mod Steps  -- steps 2 to 6, on one table
 pub mod Formed  -- a holding that is well formed
 pub mod Lawful  -- what is asked of a collector
@@ -41,7 +43,9 @@ pub mod Tunes  -- so does a channel record, and a search
 pub mod Reach  -- no frequency outside the tuner's reach
 pub mod LivePlaces  -- refusals 15 and 16, as they are told
 pub mod LiveReads  -- a fresh box never comes to 16
+pub mod Screen  -- what is tuned and printed was sent
 pub mod Lowest  -- the lowest section first
+pub mod Firsts  -- the first that has a property
 pub mod Search  -- the one fact that the four searches share
 -- ---- growth, and other runs that come to the same
 pub mod SameRuns  -- growth, and what stood in the store, change nothing

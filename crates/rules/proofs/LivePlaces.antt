@@ -6,24 +6,13 @@ use mathlib.Core.Path.{_≡_, refl, sym, ap, _∙_}
 use mathlib.Core.Bool.{Bool, true, false, not, _&&_}
 use mathlib.Core.List.{List}
 use lib.Dec.{eqb}
-use borrow.Author.Tests.{eq-eqb, ne-eqb, eqb-true, eqb-false, not-true}
-use Rattle.rules.specs.Section.{Content, mapOf, Reading, wrong, right}
-use Rattle.rules.specs.Holding.{indexOf, isTable, sectionAt, holdingOf, liveAt, hasMap, notOurs, otherMap, OtherMapped, readFor}
+use borrow.Author.Tests.{eq-eqb, eqb-true, eqb-false, not-true}
+use Rattle.rules.specs.Section.{Content, Reading, wrong, right}
+use Rattle.rules.specs.Holding.{indexOf, isTable, sectionAt, holdingOf, liveAt, otherMap, readFor}
 use Rattle.rules.specs.{Answered.EachLive, Answered.Reads, Answered.EachReads, declared.Table.Table, declared.State.State}
 use Rattle.rules.specs.Tuning.{neededTables, tableLive, allLive, liveCount, liveReading, isSection, readsAs, every, placeReads, tableReads, allRead}
 use Rattle.rules.proofs.Taken.{not-so, differ, both-left, both-right}
-use Rattle.rules.proofs.States.{same-index, each-at, each-so}
-
--- ---- step 1, in words as in the rule's test
-
-pub mapped-says : (s : State) (c : Content) → otherMap s c ≡ true → OtherMapped s c
-unfolding otherMap notOurs
-mapped-says s c e =
-    (both-left _ (not (eqb (mapOf c) (s .settings .map))) e, eqb-false (mapOf c) (s .settings .map) (not-true _ (both-right (hasMap (c .table)) _ e)))
-
-pub mapped-so : (s : State) (c : Content) → OtherMapped s c → otherMap s c ≡ true
-unfolding otherMap notOurs
-mapped-so s c a = simp (a .0, ne-eqb (mapOf c) (s .settings .map) (a .1))
+use Rattle.rules.proofs.States.{same-index, each-at, each-so, mapped-says, mapped-so}
 
 -- ---- one place
 

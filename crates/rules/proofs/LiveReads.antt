@@ -8,6 +8,7 @@ use Rattle.rules.specs.Holding.{indexOf, sectionAt, holdingOf, liveAt, f
 use Rattle.rules.specs.{Offering.Wanted, declared.Table.Table, declared.State.State, declared.Revision.Revision}
 use Rattle.rules.specs.Tuning.{neededTables, tableLive, allLive, liveCount, liveReading, isSection, readsAs, placeReads, tableReads, allRead}
 use Rattle.rules.proofs.States.{each-at, each-so, lawful, all-fresh}
+use Rattle.rules.proofs.Lawful.{aside-no}
 use Rattle.rules.proofs.{Faithful.FaithfulBox, Faithful.faithful-run, Faithful.faithful-fresh, LivePlaces.every-so}
 
 module _ (start : State) (b : Box) (f : FaithfulBox box start b) (t : Table) where
@@ -19,7 +20,7 @@ module _ (start : State) (b : Box) (f : FaithfulBox box start b) (t : Table) whe
       simp (
         f .reads (sectionAt (b .store) (liveAt (b .state) t n)) ∙ w .reads,
         eq-eqb (indexOf (w .content .table)) (indexOf t) (ap indexOf (w .table)),
-        f .aside (w .content) ∙ w .ours,
+        f .aside (w .content) ∙ aside-no box lawful start (w .content) (w .ours),
         eq-eqb (w .content .revision .version) (holdingOf (b .state) t .live .version) (ap (λ (r : Revision). r .version) (w .revision)),
         eq-eqb (w .content .revision .number) n (ap (λ (r : Revision). r .number) (w .revision)),
         eq-eqb (w .content .revision .last) (holdingOf (b .state) t .live .last) (ap (λ (r : Revision). r .last) (w .revision)),

@@ -34,6 +34,10 @@ pub neither-right : (a b : Bool) → (a || b) ≡ false → b ≡ false
 neither-right true b e = absurd (differ e)
 neither-right false b e = e
 
+pub or-right : (a b : Bool) → b ≡ true → (a || b) ≡ true
+or-right true b e = refl
+or-right false b e = e
+
 pub unlike : {a b : ℕ} → eqb a b ≡ false → a ≡ b → ⊥
 unlike e q = differ (sym (eq-eqb _ _ q) ∙ e)
 

@@ -1,18 +1,18 @@
 -- What a channel number is tuned to, told in words, without the rule's own search and tests: document 01, "From number to tuner", and of "Numbers of
 -- refusal" 1, 2 and 14 to 21. Of the rules it takes `carrierKhz`, "first + k x spacing, each in its own unit"; `hidden`, of which `hidden-is` says what
--- it is; which tables are needed, when a state is well formed, how long its store is, and where its live sections and records stand. That the rule
+-- it is; which tables are needed, how long its store is, and where its live sections and records stand. That the rule
 -- answers so, and only so, is proofs/.
 use Prim.Native.Nat.{ℕ, _+_, _-_, _<_, _≤_}
 use mathlib.Core.Path.{_≡_}
 use mathlib.Core.Logic.{_⊎_}
-use mathlib.Core.Bool.{true, false}
+use mathlib.Core.Bool.{true}
 use mathlib.Core.List.{List, _∷_, _++_}
 use mathlib.Core.Option.{Option, none, some}
 use lib.ListN.{length}
 use Rattle.rules.specs.Layout.{Numbered}
 use Rattle.rules.specs.Tables.{carrierKhz}
 use Rattle.rules.specs.Section.{Content, right}
-use Rattle.rules.specs.Holding.{limitOf, listed, storeSize, sectionAt, holdingOf, liveAt, wellFormed, OtherMapped, readFor}
+use Rattle.rules.specs.Holding.{limitOf, listed, storeSize, sectionAt, holdingOf, liveAt, StateFormed, OtherMapped, readFor}
 use Rattle.rules.specs.Tuning.{neededTables, Plant, plant, hidden}
 use Rattle.rules.specs.declared.Table.{Table}
 use Rattle.rules.specs.declared.Carriers.{Carriers}
@@ -128,16 +128,16 @@ pub record EachReads (s : State) (store : List ℕ) : Type 0 where
 -- checks 1, 2 and 14 are passed
 pub record Askable (s : State) (store : List ℕ) (number : ℕ) : Type 0 where
   pub roomy : storeSize (limitOf s) ≤ length store
-  pub good : wellFormed s ≡ true
+  pub good : StateFormed s
   pub low : number ≤ 4095
 
 pub data Answered (s : State) (store : List ℕ) (number : ℕ) : Tuned → Type 0 where
   -- 1: a store shorter than all places
   short : length store < storeSize (limitOf s) → Answered s store number (Tuned.Refused 1)
-  -- 2: "state not well formed"
-  unformed : storeSize (limitOf s) ≤ length store → wellFormed s ≡ false → Answered s store number (Tuned.Refused 2)
+  -- 2: "state not well formed" (specs/Formed.antt)
+  unformed : storeSize (limitOf s) ≤ length store → (StateFormed s → ⊥) → Answered s store number (Tuned.Refused 2)
   -- 14: "channel number above 4095"
-  high : storeSize (limitOf s) ≤ length store → wellFormed s ≡ true → 4095 < number → Answered s store number (Tuned.Refused 14)
+  high : storeSize (limitOf s) ≤ length store → StateFormed s → 4095 < number → Answered s store number (Tuned.Refused 14)
   -- 15: a table that tuning needs isn't live
   not-live : Askable s store number → (EachLive s → ⊥) → Answered s store number (Tuned.Refused 15)
   -- 16: "a place of a live table no longer reads right as that table, map, version, number and last"

@@ -16,22 +16,25 @@ use Rattle.rules.specs.declared.Answer.{Answer}
 use Rattle.rules.specs.declared.Answer.the-variants.{Refused}
 
 -- of tables T, with states S, that reads sections as contents C
-pub record Collector (T S C : Type 0) : Type 0 where
+pub record Collector (T S C : Type 0) : Type 1 where
   -- the order of the tables' places in the store, how many tables there are, and the bytes of a place
   pub index : T → ℕ
   pub tables : ℕ
   pub size : ℕ
-  -- a state: what is held of a table, and the state with that changed; how many sections a table may have; refusal 2
+  -- a state: what is held of a table, and the state with that changed; how many sections a table may have; refusal 2, unless it is well
+  -- formed, by test and in words
   pub holding : S → T → Holding
   pub with : S → T → Holding → S
   pub limit : S → ℕ
   pub formed : S → Bool
+  pub Formed : S → Type 0
   -- a section: its refusal or its content, as a box of that state reads it; of which table and revision it is
   pub read : S → (section : List ℕ) → ReadingOf C
   pub table : C → T
   pub revision : C → Revision
-  -- step 1: whether a section that reads right is set aside, and the word that is answered then
+  -- step 1: whether a section that reads right is set aside, by test and in words, and the word that is answered then
   pub aside : S → C → Bool
+  pub Aside : S → C → Type 0
   pub word : S → C → Answer
 
 -- a state and the store lent with it

@@ -1,5 +1,5 @@
 -- A section that reads right, told by its parts: no byte before its CRC belongs to no part, and what it says stands in them.
-use Prim.Native.Nat.{ℕ, _-_, _/_, _%_, _≤_}
+use Prim.Native.Nat.{ℕ, _+_, _-_, _/_, _%_, _≤_}
 use mathlib.Core.Path.{_≡_}
 use mathlib.Core.Bool.{true}
 use mathlib.Core.List.{List, [], _∷_}
@@ -8,7 +8,7 @@ use Rattle.rules.specs.Bytes.{byte}
 use Rattle.rules.specs.Crc.{crcOf}
 use Rattle.rules.specs.Descriptors.{bodies}
 use Rattle.rules.specs.Form.{form}
-use Rattle.rules.specs.Section.{revisionTag, Content, fitting, withoutCrc}
+use Rattle.rules.specs.Section.{lengthOf, revisionTag, Content, withoutCrc}
 use Rattle.rules.specs.Parts.{Parts, bytesOf, Shaped, said, Fair}
 use Rattle.rules.specs.declared.Table.{Table}
 use Rattle.rules.specs.declared.Revision.{Revision}
@@ -38,12 +38,19 @@ pub record PartsRight (t : Table) (p : Parts) (r : Revision) : Type 0 where
 abbrev pub contentIn : Table → Parts → Revision → Content
 contentIn t p r = record { table = t; structure = said (form t) p; closing = p .closing; revision = r }
 
--- a section is the bytes of such parts, and says what they say; its length, CRC and protocol version are right
+-- check 3: at least 8 bytes, exactly 3 + L, and L at most 1,021
+pub record LengthRight (s : List ℕ) : Type 0 where
+  pub long : 8 ≤ length s
+  pub whole : length s ≡ 3 + lengthOf s
+  pub short : lengthOf s ≤ 1021
+
+-- a section is the bytes of such parts, and says what they say; checks 3, 5 and 6 of length, CRC and protocol version are passed, and with the number
+-- of a table 4 is
 pub record InParts (s : List ℕ) (c : Content) : Type 0 where
   pub parts : Parts
   pub right : PartsRight (c .table) parts (c .revision)
   pub says : c ≡ contentIn (c .table) parts (c .revision)
   pub bytes : withoutCrc s ≡ bytesOf (form (c .table)) parts
-  pub fits : fitting s ≡ true
+  pub fits : LengthRight s
   pub crc : crcOf s ≡ 0
   pub protocol : byte 3 s % 32 ≡ 0

@@ -10,6 +10,7 @@ pub mod Meaning
 pub mod Parts
 pub mod InParts
 pub mod Steps
+pub mod Formed
 pub mod Gathering
 pub mod Offering
 pub mod Holding
@@ -18,5 +19,6 @@ pub mod Answered
 pub mod Runs
 pub mod Said
 pub mod Lineup
+pub mod Sent
 pub mod Feeding
 pub mod Growth

@@ -94,21 +94,21 @@ pub record NoOtherLast (v last : ℕ) (h : Holding) : Type 0 where
   pub gathered : isGathered h v ≡ true → h .gathered .last ≡ last
 
 module _ {T S C : Type 0} (co : Collector T S C) where
-  open Collector co using (holding as holdingOf, limit as limitOf, formed as wellFormed, read as readFor, table as tableOf, revision as revisionOf, aside as setAside, word)
+  open Collector co using (holding as holdingOf, limit as limitOf, Formed as WellFormed, read as readFor, table as tableOf, revision as revisionOf, Aside, word)
 
   -- ---- one offer
 
   -- "state and store pass checks 1 and 2"
   pub record Checked (b : BoxOf S) : Type 0 where
     pub roomy : storeSize co (limitOf (b .state)) ≤ length (b .store)
-    pub good : wellFormed (b .state) ≡ true
+    pub good : WellFormed (b .state)
 
   -- these are passed, and the section reads right and is not set aside
   pub record Passed (s : S) (store section : List ℕ) (c : C) : Type 0 where
     pub roomy : storeSize co (limitOf s) ≤ length store
-    pub good : wellFormed s ≡ true
+    pub good : WellFormed s
     pub reads : readFor s section ≡ right c
-    pub ours : setAside s c ≡ false
+    pub ours : Aside s c → ⊥
 
   -- a section that does not touch a table
   abbrev pub NotOf : S → (t : T) → (section : List ℕ) → Type 0
@@ -141,33 +141,32 @@ module _ {T S C : Type 0} (co : Collector T S C) where
       pub same-last : OtherLast (holdingOf (b .state) (tableOf c)) (revisionOf c) → ⊥
       pub not-yet : Repeated (holdingOf (b .state) (tableOf c)) (revisionOf c) → ⊥
 
-  -- ---- "For a section (v, n, last) that reads right, in this order" steps 1 to 6, behind refusals 1 to 11; step 1 by the collector's own words
+  -- ---- "For a section (v, n, last) that reads right, in this order" steps 1 to 6, behind refusals 1 to 11; 2 and step 1 by the collector's own words
 
-  module _ (Aside : S → C → Type 0) where
-    pub data Offering (b : BoxOf S) (section : List ℕ) : Answer → Type 0 where
-      -- 1: a store shorter than all places
-      short : length (b .store) < storeSize co (limitOf (b .state)) → Offering b section (Refused 1)
-      -- 2: "state not well formed"
-      unformed : storeSize co (limitOf (b .state)) ≤ length (b .store) → wellFormed (b .state) ≡ false → Offering b section (Refused 2)
-      -- 3 to 11: the section does not read right
-      unread : {n : ℕ} → Checked b → readFor (b .state) section ≡ wrong n → Offering b section (Refused n)
-      -- step 1: set aside by a word
-      set-aside : {c : C} → Checked b → readFor (b .state) section ≡ right c → Aside (b .state) c → Offering b section (word (b .state) c)
-      -- step 2: last not below the limit: refusal 12
-      high-last : {c : C} → Passed (b .state) (b .store) section c → limitOf (b .state) ≤ revisionOf c .last → Offering b section (Refused 12)
-      -- step 3: refusal 13
-      other-last : {c : C} → Passed (b .state) (b .store) section c → revisionOf c .last < limitOf (b .state)
-          → OtherLast (holdingOf (b .state) (tableOf c)) (revisionOf c) → Offering b section (Refused 13)
-      -- step 4: *repeat*
-      repeated : {c : C} → Passed (b .state) (b .store) section c → revisionOf c .last < limitOf (b .state)
-          → (OtherLast (holdingOf (b .state) (tableOf c)) (revisionOf c) → ⊥) → Repeated (holdingOf (b .state) (tableOf c)) (revisionOf c)
-          → Offering b section Repeat
-      -- step 6: "If all of 0 to last are held"
-      live : {c : C} → New b section c → ((k : ℕ) → k ≤ revisionOf c .last → NowHas (holdingOf (b .state) (tableOf c)) (revisionOf c) k)
-          → Offering b section (Live (revisionOf c .version))
-      -- "Else stored, with how many sections are still missing": of 0 to last one is not held, and the number named is last + 1 less those held
-      stored : {c : C} {missing k : ℕ} → New b section c → k ≤ revisionOf c .last → (NowHas (holdingOf (b .state) (tableOf c)) (revisionOf c) k → ⊥)
-          → missing + ones (heldWith (holdingOf (b .state) (tableOf c)) (revisionOf c)) ≡ revisionOf c .last + 1 → Offering b section (Stored missing)
+  pub data Offering (b : BoxOf S) (section : List ℕ) : Answer → Type 0 where
+    -- 1: a store shorter than all places
+    short : length (b .store) < storeSize co (limitOf (b .state)) → Offering b section (Refused 1)
+    -- 2: "state not well formed", by the collector's own words
+    unformed : storeSize co (limitOf (b .state)) ≤ length (b .store) → (WellFormed (b .state) → ⊥) → Offering b section (Refused 2)
+    -- 3 to 11: the section does not read right
+    unread : {n : ℕ} → Checked b → readFor (b .state) section ≡ wrong n → Offering b section (Refused n)
+    -- step 1: set aside by a word
+    set-aside : {c : C} → Checked b → readFor (b .state) section ≡ right c → Aside (b .state) c → Offering b section (word (b .state) c)
+    -- step 2: last not below the limit: refusal 12
+    high-last : {c : C} → Passed (b .state) (b .store) section c → limitOf (b .state) ≤ revisionOf c .last → Offering b section (Refused 12)
+    -- step 3: refusal 13
+    other-last : {c : C} → Passed (b .state) (b .store) section c → revisionOf c .last < limitOf (b .state)
+        → OtherLast (holdingOf (b .state) (tableOf c)) (revisionOf c) → Offering b section (Refused 13)
+    -- step 4: *repeat*
+    repeated : {c : C} → Passed (b .state) (b .store) section c → revisionOf c .last < limitOf (b .state)
+        → (OtherLast (holdingOf (b .state) (tableOf c)) (revisionOf c) → ⊥) → Repeated (holdingOf (b .state) (tableOf c)) (revisionOf c)
+        → Offering b section Repeat
+    -- step 6: "If all of 0 to last are held"
+    live : {c : C} → New b section c → ((k : ℕ) → k ≤ revisionOf c .last → NowHas (holdingOf (b .state) (tableOf c)) (revisionOf c) k)
+        → Offering b section (Live (revisionOf c .version))
+    -- "Else stored, with how many sections are still missing": of 0 to last one is not held, and the number named is last + 1 less those held
+    stored : {c : C} {missing k : ℕ} → New b section c → k ≤ revisionOf c .last → (NowHas (holdingOf (b .state) (tableOf c)) (revisionOf c) k → ⊥)
+        → missing + ones (heldWith (holdingOf (b .state) (tableOf c)) (revisionOf c)) ≡ revisionOf c .last + 1 → Offering b section (Stored missing)
 
   -- ---- the promise: "Sections 0 to last of one version, all reading right with that last and for our map, each offered in any order with no other
   -- version of that table between them, leave it live by the last of them, if state and store pass checks 1 and 2, last is at most 3 and neither
@@ -178,7 +177,7 @@ module _ {T S C : Type 0} (co : Collector T S C) where
     pub record Wanted (n : ℕ) (section : List ℕ) : Type 0 where
       pub content : C
       pub reads : readFor start section ≡ right content
-      pub ours : setAside start content ≡ false
+      pub ours : Aside start content → ⊥
       pub table : tableOf content ≡ t
       pub revision : revisionOf content ≡ record { version = v; number = n; last = last }
 
@@ -190,7 +189,7 @@ module _ {T S C : Type 0} (co : Collector T S C) where
     -- no other version of the table: whatever reads right, is for our map and of the table, and has a last number that is not
     -- refused as 12, is of that version
     pub record NoOther (section : List ℕ) : Type 0 where
-      pub only : (c : C) → readFor start section ≡ right c → setAside start c ≡ false → tableOf c ≡ t → revisionOf c .last < limitOf start
+      pub only : (c : C) → readFor start section ≡ right c → (Aside start c → ⊥) → tableOf c ≡ t → revisionOf c .last < limitOf start
           → revisionOf c .version ≡ v
 
     abbrev pub NoneOther : (sections : List (List ℕ)) → Type 0
