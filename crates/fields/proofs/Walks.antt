@@ -2,9 +2,10 @@
 use Prim.Native.Nat.{ℕ, zero, suc, _+_, _-_, _≤_, _<_}
 use native.Mathlib.Omega.{arith}
 use mathlib.Core.Path.{_≡_, refl, sym, ap, _∙_}
-use mathlib.Core.{Bool.true, List.List, List._∷_}
+use mathlib.Core.{Bool.true, Bool.false, List.List, List._∷_}
 use lib.ListN.{length, take}
 use Rattle.rules.specs.Bytes.{got, andThen, from}
+use Rattle.rules.specs.Descriptors.{counted}
 use Rattle.rules.specs.Layout.{extent, Layout, Numbered, numbered, entry, after, records}
 use Rattle.rules.proofs.Taken.{entry-got}
 use Rattle.fields.specs.Place.{Left, no, leftOf, Stands, Reaches}
@@ -17,7 +18,13 @@ module _ {R : Type 0} (l : Layout R) where
   abbrev pub here : List ℕ → ℕ → R
   here b at = l .block .look (take (extent (l .block) (from b at)) (from b at))
 
-  pub begin : {b : List ℕ} {start first count : ℕ} → start ≤ length b → first < 65536 → Reaches l b start first count start first count
+  -- no record: what no descriptors leave
+  pub none : {b : List ℕ} (start first : ℕ) {count : ℕ} {r : Skip} → count ≡ 0 → Stands b r (counted false (from b start))
+      → Stands b r (records l count first (from b start))
+  unfolding leftOf records counted
+  none start first z s = record { means = rw z (s .means); within = s .within }
+
+  pub begin : {b : List ℕ} {start first count : ℕ} → (count ≤ 0 → start ≤ length b) → first < 65536 → Reaches l b start first count start first count
   begin h k = record { within = h; small = k; same = refl }
 
   module _ {b : List ℕ} (at index : ℕ) {r : Skip} (s : Stands b r (entry l index (from b at))) where
@@ -45,7 +52,7 @@ module _ {R : Type 0} (l : Layout R) where
       -- over the record at the place, to the index behind those that it takes
       pub turn : {i : ℕ} (next : ℕ) → r ≡ At i → next ≡ index + l .takes (here b at) → next < 65536 → Reaches l b start first count i next (left - 1)
       turn {i} next e n k =
-          record { within = at-in b r _ s i e; small = k; same = rw n (one-less i left _ some e (w .same)) }
+          record { within = λ done. at-in b r _ s i e; small = k; same = rw n (one-less i left _ some e (w .same)) }
 
       pub stop : {n : ℕ} → r ≡ Refused n → Stands b (Refused n) (records l count first (from b start))
       stop {n} e = record { means = refused-here n left _ some e (w .same); within = tt }
@@ -53,7 +60,7 @@ module _ {R : Type 0} (l : Layout R) where
   pub end : {b : List ℕ} {start first count at index left : ℕ} → Reaches l b start first count at index left → left ≤ 0
       → Stands b (At at) (records l count first (from b start))
   unfolding leftOf records
-  end {left = left} w h = let z : left ≡ 0 = omega arith in record { means = sym (w .same ∙ rw z); within = w .within }
+  end {left = left} w h = let z : left ≡ 0 = omega arith in record { means = sym (w .same ∙ rw z); within = w .within h }
 
   -- a walk that goes on from where another one stopped
   pub joined : {b : List ℕ} {start first count at index left : ℕ} {r : Skip} → Reaches l b start first count at index left

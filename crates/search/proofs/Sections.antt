@@ -12,7 +12,7 @@ use Rattle.rules.specs.Gathering as Gathering
 use Rattle.rules.specs.Holding.{limitOf, indexOf, placeOf, sectionAt, holdingOf, liveAt, readFor}
 use Rattle.rules.specs.Tuning.{liveCount, liveReading, recordsIn, liveSection}
 use Rattle.rules.proofs.{Taken.then-got, Taken.giving-got, Taken.taken-got, Right.formal, Right.header-got, Right.reads-right, LivePlaces.table-says}
-use Rattle.rules.proofs.{States.index-lt, States.limit-low, States.limit-some, Formed.formed, Placed.last-low}
+use Rattle.rules.proofs.{States.index-lt, States.limit-low, States.limit-some, Formed.formed, Formed.last-low}
 use Rattle.fields.specs.{Outline.layoutOf, Outline.fronted, Outline.outlineOf, declared.Outline.Outline, declared.Outlined.Outlined}
 use Rattle.fields.specs.declared.Outlined.the-variants.{Refused, Records}
 use Rattle.fields.proofs.Outlines.{laid, no-area, an-area}
@@ -94,5 +94,5 @@ pub low-live : (s : State) (store : List ℕ) (t : Table) → Live s store t →
 unfolding Gathering.liveAt liveCount
 low-live s store t live i h =
     let f = formed (limitOf s) (holdingOf s t) (live .formed) in
-    let last = last-low (limitOf s) (holdingOf s t .live) (limit-some s) (f .live) in
+    let last = last-low (limitOf s) (holdingOf s t) (limit-some s) (live .formed) in
     small-place s t (holdingOf s t .half) i (omega (arith, f .half)) (omega (arith, last, limit-low s))

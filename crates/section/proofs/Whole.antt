@@ -11,14 +11,16 @@ use Rattle.rules.specs.{declared.Revision.Revision, declared.SectionHead.Sectio
 use Rattle.rules.specs.Layout.{Block, extent, taken, Numbered, records}
 use Rattle.rules.specs.Section.{isNumber, mediumAt, named, given, headerOf, Headed, headerBy, header, inFront, Structure, structure, revisionTag}
 use Rattle.rules.specs.Section.{revision, Content, contentOf, content, fitting, withoutCrc, whole, Reading, wrong, right, read, readSection, sizeOf}
-use Rattle.rules.specs.Section.{closingAt, headOf, readAs, firstOf, askedOf, ask}
+use Rattle.rules.specs.Section.{closingAt, headOf, readAs, firstOf, askedOf, ask, partAt}
+use Rattle.rules.specs.declared.Asked.{Asked}
 use Rattle.rules.specs.declared.Read.the-variants as reads
 use Rattle.rules.specs.declared.Asked.the-variants as asked
 use Rattle.rules.proofs.Taken.{unless-got, given-got, giving-got, then-got, taken-got}
-use Rattle.rules.proofs.{Closing.closing-size, Places.from-length, Right.reads-right, Right.closing-place}
+use Rattle.rules.proofs.{Asking.asked-inside, Closing.closing-size, Places.from-length, Right.reads-right, Right.closing-place}
 use Rattle.fields.specs.Outline.{headerSays, behindHeader, layoutOf, fronted}
+use Rattle.fields.specs.Place.{placeOrEnd}
 use Rattle.fields.specs.declared.Outline.{Outline}
-use Rattle.fields.proofs.Outlines.{laid, Area}
+use Rattle.fields.proofs.{Laws.place-inside, Outlines.laid, Outlines.Area}
 use Rattle.section.specs.Closes.{closedAs, closedOf, filled, firstIn}
 use Rattle.section.specs.Reads.{namedAs, headerAs, headedBy, headed, behind, answeredAs}
 use Rattle.section.specs.declared.header.Named.the-variants as names
@@ -294,3 +296,9 @@ module _ (s : List ℕ) where
     unfolding ask askedOf firstIn
     ask-first tag =
         ap (firstIn tag (h .closing)) (list .1) ∙ ap (λ (at : ℕ). firstOf tag at (found .0 .closing)) (found .2) ∙ ap (askedOf tag s) (sym (found .1))
+
+-- a body that is there stands inside its section
+pub there-inside : (tag : ℕ) (s : List ℕ) {a : Asked} (start size : ℕ) → a ≡ ask tag s → a ≡ asked.There start size → placeOrEnd s start ≡ start
+unfolding partAt
+there-inside tag s start size e there =
+    place-inside s start (subst (λ (x : Asked). partAt x ≤ length s) (sym e ∙ there) (asked-inside tag s))

@@ -1,9 +1,11 @@
 // One section: what it reads as, refusals 3 to 11, and the question for a descriptor of its closing list.
 ghost use mathlib.Core.Path.{_≡_};
 ghost use Prim.Native.Nat.{_≤_};
+ghost use denote.Ref.{ptr};
 ghost use lib.ListN.{length};
-ghost use Rattle.rules.specs.Section.{isNumber, fitting, content, readSection, readAs, ask, partOf};
+ghost use Rattle.rules.specs.Section.{isNumber, fitting, content, readSection, readAs, ask, partOf, partAt};
 ghost use Rattle.rules.specs.Said.{readSaid, askedSaid, sectionSaid, askSaid};
+ghost use Rattle.fields.specs.Place.{further};
 ghost use Rattle.section.specs.Reads.{behind, answeredAs};
 use closing::Closed;
 use fields::Outlined;
@@ -114,14 +116,16 @@ pub fn ask_descriptor(section: &[u8], tag: u8) -> Asked
     }
 }
 
-// That body as a part of the section itself; an empty part where there is none, which ask_descriptor tells from an empty body.
+// That body as a part of the section itself; the empty part at its front where there is none, which ask_descriptor tells from an
+// empty body.
 pub fn find_descriptor(section: &[u8], tag: u8) -> &[u8]
     ensures { λ r. ⌜ now r ≡ partOf (now (section .entry)) (ask tag (now (section .entry))) ⌝ }
+    ensures { λ r. ⌜ ptr r ≡ further (ptr (section .entry)) (partAt (ask tag (now (section .entry)))) ⌝ }
 {
     let asked = ask_descriptor(section, tag);
     match asked {
-        Asked::Refused(_) => &section[..0],
-        Asked::Absent => &section[..0],
+        Asked::Refused(_) => &section[0..0],
+        Asked::Absent => &section[0..0],
         Asked::There { start, size } => fields::part(section, start, size),
     }
 }

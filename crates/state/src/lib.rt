@@ -4,9 +4,11 @@
 ghost use mathlib.Core.Path.{_≡_};
 ghost use mathlib.Core.Bool.{_&&_};
 ghost use Prim.Native.Nat.{_≤_};
+ghost use denote.Ref.{ptr};
 ghost use lib.Dec.{eqb};
 ghost use Rattle.rules.specs.Holding.{limitOf, indexOf, holdingOf, with, placeOf, storeSize, sectionAt, liveAt, gatheredAt, wellFormed, notOurs};
 ghost use Rattle.rules.specs.Tuning.{isSection, placeReads, tableReads};
+ghost use Rattle.fields.specs.Place.{placeOrEnd, further};
 use rules::Holding;
 use rules::LiveVersion;
 use rules::Read;
@@ -123,15 +125,18 @@ pub fn place_of(s: State, t: Table, half: u8, n: u8) -> usize
 // The section in the place that begins there, as a part of the store: its first 3 + L bytes.
 fn section_at(store: &[u8], at: usize) -> &[u8]
     ensures { λ r. ⌜ now r ≡ sectionAt (now (store .entry)) at ⌝ }
+    ensures { λ r. ⌜ ptr r ≡ further (ptr (store .entry)) (placeOrEnd (now (store .entry)) at) ⌝ }
 {
     let place = fields::part(store, at, PLACE);
     let l = fields::length_of(place);
     fields::part(place, 0, 3 + l as usize)
 }
 
-// The section in the place of section n of the live half.
+// The section in the place of section n of the live half, a part of the store too; where the store ends before the place, the empty
+// one at its end.
 pub fn live_section(s: State, store: &[u8], t: Table, n: u8) -> &[u8]
     ensures { λ r. ⌜ now r ≡ sectionAt (now (store .entry)) (liveAt s t n) ⌝ }
+    ensures { λ r. ⌜ ptr r ≡ further (ptr (store .entry)) (placeOrEnd (now (store .entry)) (liveAt s t n)) ⌝ }
 {
     let h = holding_of(s, t);
     section_at(store, place_of(s, t, h.half, n))

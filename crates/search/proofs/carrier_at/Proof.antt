@@ -19,7 +19,7 @@ returns-2 c =
       c .carrier-khz .ensures,
       c .before .beyond .ensures,
       f .carriers-of .ensures,
-      f .before .part .ensures,
+      f .before .part .ensures .0,
       f .before .before .place-in .ensures,
       an-entry Cds _ _ (f .before .before .before .if1 .left),
     )

@@ -12,7 +12,7 @@ unfolding channelFound vcm
 channel-at-spec = tie.close (tie.spec (λ c. rw (no-entry Vcm _ _ (c .if1 .taken))) (λ c κs. search needs) (λ c κs. search needs) (λ c κs. search needs)
     (λ c. rw (
       c .channel-of .ensures,
-      c .before .part .ensures,
+      c .before .part .ensures .0,
       c .before .before .place-in .ensures,
       an-entry Vcm _ _ (c .before .before .before .if1 .left),
     )))

@@ -10,4 +10,4 @@ pub defined-at-spec : {M : Type 1} → statement M
 unfolding definedBy dcm
 defined-at-spec = tie.close (tie.spec (λ c. rw (no-entry Dcm _ _ (c .if1 .taken))) (λ c κs. search needs) (λ c κs. search needs) (λ c κs. search needs)
     (λ c. let f = c .before in
-    rw (f .range-of .ensures, f .before .part .ensures, f .before .before .place-in .ensures, an-entry Dcm _ _ (f .before .before .before .if1 .left))))
+    rw (f .range-of .ensures, f .before .part .ensures .0, f .before .before .place-in .ensures, an-entry Dcm _ _ (f .before .before .before .if1 .left))))

@@ -5,15 +5,15 @@ use mathlib.Core.Path.{sym, ap, _∙_}
 use lib.Seq.{length-take-le}
 use borrow.Author.Needs.{needs}
 use Rattle.rules.specs.Section.{withoutCrc}
-use Rattle.rules.proofs.{Right.fitting-long, Told.read-told}
+use Rattle.rules.proofs.{Right.fitting-says, Told.read-told}
 use Rattle.section.proofs.Whole.{whole-unfit, whole-other, whole-spoilt, whole-newer, whole-so, reads-no, reads-content}
 use Rattle.section.proofs.read_section.Statement.{statement}
 use Rattle.section.proofs.read_section.Tie as tie
 
 sub-content-of : tie.Need-sub-content-of
 sub-content-of c =
-    let l = fitting-long _ (sym (c .before .before .before .before .before .before .before .before .is-fitting .ensures)
-    ∙ c .before .before .before .before .before .before .before .if1 .taken) in omega arith
+    let l = fitting-says _ (sym (c .before .before .before .before .before .before .before .before .is-fitting .ensures)
+    ∙ c .before .before .before .before .before .before .before .if1 .taken) in omega (arith, l .long)
 
 returns-3 : tie.Need-returns-3
 unfolding withoutCrc

@@ -9,8 +9,7 @@ use Rattle.section.proofs.structured.Tie as tie
 
 pub structured-spec : {M : Type 1} → statement M
 structured-spec = tie.close (tie.spec (λ c κs. search needs) (λ c. search needs) (λ c. search needs)
-    (λ c κs. an-area _ _ (omega arith) (c .before .before .before .outline-of .ensures) (c .before .outlined2 .given .1) .within)
-    (λ c. search needs) (λ c. search needs) (λ c κs. search needs) (λ c. search needs) (λ c. search needs)
+    (λ c κs. search needs) (λ c. search needs) (λ c. search needs) (λ c κs. search needs) (λ c. search needs) (λ c. search needs)
     (λ c. shown-no _ _ _ (unfronted _ _ _ (no-area _ _ (omega arith) (c .before .before .before .outline-of .ensures) (c .before .outlined .given .1))))
     (λ c. let f = c .before .before .before in
     let a = an-area _ _ (omega arith) (f .before .before .before .before .outline-of .ensures) (f .before .before .outlined2 .given .1) in

@@ -9,5 +9,5 @@ pub judged-spec : {M : Type 1} → statement M
 unfolding closedAs seenOf revision
 judged-spec = tie.close (tie.spec (λ c. search needs) (λ c. search needs) (λ c κs. search needs) (λ c κs. search needs) (λ c. search needs)
     (λ c. rw (c .enum-told .given .1))
-    (λ c. rw (c .before .before .before .seen .given .1, ← c .before .part .ensures) (c .revised .ensures))
+    (λ c. rw (c .before .before .before .seen .given .1, ← c .before .part .ensures .0) (c .revised .ensures))
     (λ c. rw (c .enum-told2 .given .1)))
