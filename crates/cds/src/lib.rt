@@ -1,8 +1,7 @@
 // The carrier table, CDS: its record, and the way over its records. b is a section without its CRC.
 ghost use mathlib.Core.Path.{_≡_};
 ghost use mathlib.Core.Bool.{true};
-ghost use Prim.Native.Nat.{_+_, _≤_, _<_};
-ghost use lib.ListN.{length};
+ghost use Prim.Native.Nat.{_+_, _<_};
 ghost use Rattle.rules.specs.Bytes.{from};
 ghost use Rattle.rules.specs.Layout.{entry, records};
 ghost use Rattle.rules.specs.Tables.{carriersZeros, carriersOf, carriersFair, cds};
@@ -103,7 +102,7 @@ fn is_plain(b: &[u8], at: usize, index: u32) -> bool
 
 // Over the records that are right and have no descriptors, as far as they go: the short way for what a plant mostly sends.
 fn skim(b: &[u8], o: Outline) -> Outline
-    requires { ⌜ o .at ≤ length (now b) ⌝ }
+    requires { ⌜ 0 < o .count ⌝ }
     ensures { λ r. ⌜ Reaches cds (now (b .entry)) (o .at) (o .first) (o .count) (r .at) (r .first) (r .count) ⌝ }
 {
     let mut at = o.at;
@@ -127,10 +126,13 @@ fn skim(b: &[u8], o: Outline) -> Outline
 }
 
 // The place behind the records of an outline; or 8, 9, 10. The short way first, and from where that stops record by record.
+// With no record there is nothing to refuse: the outline's place, or the end where it lies behind it.
 pub fn past_carriers(b: &[u8], o: Outline) -> Skip
-    requires { ⌜ o .at ≤ length (now b) ⌝ }
     ensures { λ r. ⌜ Stands (now (b .entry)) r (records cds (o .count) (o .first) (from (now (b .entry)) (o .at))) ⌝ }
 {
+    if o.count == 0 {
+        return fields::past_counted(b, o.at, false);
+    }
     let reached = skim(b, o);
     let mut at = reached.at;
     let mut index = reached.first;

@@ -1,8 +1,7 @@
 // The defined channels map, DCM: its head, its range byte, and the way over its ranges. b is a section without its CRC.
 ghost use mathlib.Core.Path.{_≡_};
 ghost use mathlib.Core.Bool.{true};
-ghost use Prim.Native.Nat.{_+_, _≤_, _<_};
-ghost use lib.ListN.{length};
+ghost use Prim.Native.Nat.{_+_, _<_};
 ghost use Rattle.rules.specs.Bytes.{from};
 ghost use Rattle.rules.specs.Layout.{entry, records};
 ghost use Rattle.rules.specs.Tables.{dcmHeadZeros, dcmHeadOf, rangeOf, rangeFair, dcm};
@@ -115,7 +114,7 @@ fn is_plain(b: &[u8], at: usize, first: u32) -> bool
 
 // Over the records that are right, as far as they go: the short way for what a plant mostly sends.
 fn skim(b: &[u8], o: Outline) -> Outline
-    requires { ⌜ o .at ≤ length (now b) ⌝ }
+    requires { ⌜ 0 < o .count ⌝ }
     ensures { λ r. ⌜ Reaches dcm (now (b .entry)) (o .at) (o .first) (o .count) (r .at) (r .first) (r .count) ⌝ }
 {
     let mut at = o.at;
@@ -139,10 +138,13 @@ fn skim(b: &[u8], o: Outline) -> Outline
 }
 
 // The place behind the range bytes of an outline; or 8, 10. The short way first, and from where that stops byte by byte.
+// With no range there is nothing to refuse: the outline's place, or the end where it lies behind it.
 pub fn past_ranges(b: &[u8], o: Outline) -> Skip
-    requires { ⌜ o .at ≤ length (now b) ⌝ }
     ensures { λ r. ⌜ Stands (now (b .entry)) r (records dcm (o .count) (o .first) (from (now (b .entry)) (o .at))) ⌝ }
 {
+    if o.count == 0 {
+        return fields::past_counted(b, o.at, false);
+    }
     let reached = skim(b, o);
     let mut at = reached.at;
     let mut index = reached.first;

@@ -1,7 +1,5 @@
 // The tables by their names: what the reader, and who goes over a section's records, asks of the table that the section is of.
 ghost use mathlib.Core.Path.{_≡_};
-ghost use Prim.Native.Nat.{_≤_};
-ghost use lib.ListN.{length};
 ghost use Rattle.rules.specs.Bytes.{from};
 ghost use Rattle.rules.specs.Layout.{records};
 ghost use Rattle.fields.specs.Place.{Stands};
@@ -23,9 +21,8 @@ pub fn outline_of(t: Table, b: &[u8]) -> Outlined
     }
 }
 
-// The place behind the records of an outline; or 8, 9, 10.
+// The place behind the records of an outline; or 8, 9, 10. An outline's place may lie behind the end: no record stands there.
 pub fn past_records(t: Table, b: &[u8], o: Outline) -> Skip
-    requires { ⌜ o .at ≤ length (now b) ⌝ }
     ensures { λ r. ⌜ Stands (now (b .entry)) r (records (layoutOf t (o .included)) (o .count) (o .first) (from (now (b .entry)) (o .at))) ⌝ }
 {
     match t {

@@ -1,8 +1,7 @@
 // The virtual channel map, VCM: its head, its channel record, and the way over its records. b is a section without its CRC.
 ghost use mathlib.Core.Path.{_≡_};
 ghost use mathlib.Core.Bool.{true, _&&_};
-ghost use Prim.Native.Nat.{ℕ, _+_, _≤_};
-ghost use lib.ListN.{length};
+ghost use Prim.Native.Nat.{ℕ, _+_, _<_};
 ghost use Rattle.rules.specs.Bytes.{from};
 ghost use Rattle.rules.specs.Layout.{entry, records};
 ghost use Rattle.rules.specs.Tables.{vcmHeadZeros, vcmHeadOf, channelZeros, signalOf, channelOf, channelFair, vcm};
@@ -245,7 +244,7 @@ fn is_plain(b: &[u8], at: usize, included: u8) -> bool
 
 // Over the records that are right and have no descriptors, as far as they go: the short way for what a plant mostly sends.
 fn skim(b: &[u8], o: Outline) -> Outline
-    requires { ⌜ o .at ≤ length (now b) ⌝ }
+    requires { ⌜ 0 < o .count ⌝ }
     ensures { λ r. ⌜ Reaches (vcm (o .included)) (now (b .entry)) (o .at) (o .first) (o .count) (r .at) (o .first) (r .count) ⌝ }
 {
     let tail = tail_of(o.included);
@@ -268,10 +267,13 @@ fn skim(b: &[u8], o: Outline) -> Outline
 }
 
 // The place behind the records of an outline; or 8, 9, 10. The short way first, and from where that stops record by record.
+// With no record there is nothing to refuse: the outline's place, or the end where it lies behind it.
 pub fn past_channels(b: &[u8], o: Outline) -> Skip
-    requires { ⌜ o .at ≤ length (now b) ⌝ }
     ensures { λ r. ⌜ Stands (now (b .entry)) r (records (vcm (o .included)) (o .count) (o .first) (from (now (b .entry)) (o .at))) ⌝ }
 {
+    if o.count == 0 {
+        return fields::past_counted(b, o.at, false);
+    }
     let reached = skim(b, o);
     let mut at = reached.at;
     let mut left = reached.count;

@@ -3,7 +3,7 @@ use native.Mathlib.Omega.{arith}
 use borrow.Author.Needs.{needs}
 use Rattle.rules.specs.{Bytes.byte, Tables.cds}
 use Rattle.fields.specs.Place.{Reaches}
-use Rattle.fields.proofs.Walks.{begin, stop, end, joined}
+use Rattle.fields.proofs.Walks.{none, begin, stop, end, joined}
 use Rattle.cds.proofs.Onward.{low, onward}
 use Rattle.cds.proofs.past_carriers.Statement.{statement}
 use Rattle.cds.proofs.past_carriers.Tie as tie
@@ -13,6 +13,10 @@ Inv-loop b at₀ index₀ left₀ at index left = Reaches cds b at₀ index₀ l
 
 abbrev μ-loop : tie.MeasureT-loop
 μ-loop b at₀ index₀ left₀ at index left = left
+
+returns : tie.Need-returns Inv-loop μ-loop
+unfolding byte
+returns c = none cds _ _ (c .before .if1 .taken) (c .past-counted .ensures)
 
 loop-holds : tie.Need-loop-holds Inv-loop μ-loop
 unfolding byte
@@ -25,21 +29,21 @@ loop-again c =
     onward _ _ (f .carriers-step .ensures) (c .before .before .next .given .1) (f .before .before .loop .inv) (f .before .loop-test .taken) _
     (rw (c .byte .ensures))
 
-returns : tie.Need-returns Inv-loop μ-loop
+returns-2 : tie.Need-returns-2 Inv-loop μ-loop
 unfolding byte
-returns c =
+returns-2 c =
     let f = c .before .before .before in
     let w = f .before .before in
     joined cds (w .before .skim .ensures) (stop cds _ _ (f .carriers-step .ensures) (w .loop .inv) (f .before .loop-test .taken) (c .before .next2 .given .1))
 
-returns-2 : tie.Need-returns-2 Inv-loop μ-loop
+returns-3 : tie.Need-returns-3 Inv-loop μ-loop
 unfolding byte
-returns-2 c =
+returns-3 c =
     joined cds (c .before .before .skim .ensures) (end cds (c .before .loop .inv) (omega (arith, c .loop-test .left)))
 
 pub past-carriers-spec : {M : Type 1} → statement M
 unfolding byte
-past-carriers-spec = tie.close (tie.spec Inv-loop μ-loop (λ c κs. search needs) loop-holds (λ c κs. search needs) (λ c. search needs)
-    (λ c κs. search needs) (λ c. search needs)
+past-carriers-spec = tie.close (tie.spec Inv-loop μ-loop (λ c κs. search needs) returns (λ c κs. search needs) loop-holds (λ c κs. search needs)
+    (λ c. search needs) (λ c κs. search needs) (λ c. search needs)
     (λ c. omega (arith, c .byte .ensures, low _ _ (c .before .before .before .before .carriers-step .ensures) (c .before .before .next .given .1)))
-    (λ c. search needs) (λ c. search needs) loop-again (λ c. search needs) returns returns-2)
+    (λ c. search needs) (λ c. search needs) loop-again (λ c. search needs) returns-2 returns-3)

@@ -16,7 +16,7 @@ abbrev μ-loop : tie.MeasureT-loop
 μ-loop b o at₀ index₀ left₀ at index left = left
 
 loop-holds : tie.Need-loop-holds Inv-loop μ-loop
-loop-holds c = begin cds (search needs) (search needs)
+loop-holds c = begin cds (λ done. omega arith) (search needs)
 
 is-plain-requires : tie.Need-is-plain-requires Inv-loop μ-loop
 is-plain-requires c κs = c .before .loop .inv .small

@@ -13,7 +13,7 @@ pub skim-spec : {M : Type 1} → statement M
 skim-spec = tie.close (tie.spec
     (λ b o at₀ index₀ left₀ at index left. Reaches dcm b (o .at) (o .first) (o .count) at index left)
     (λ b o at₀ index₀ left₀ at index left. left) (λ c. search needs)
-    (λ c. begin dcm (search needs) (search needs))
+    (λ c. begin dcm (λ done. omega arith) (search needs))
     (λ c κs. c .before .loop .inv .small)
     (λ c. omega (arith, c .before .before .is-plain .ensures (not-false _ (c .before .if1 .left)) .within))
     (λ c. omega (arith, c .shared-slice-known2 .given (c .before .before .before .before .loop .at)))

@@ -13,7 +13,7 @@ pub skim-spec : {M : Type 1} → statement M
 skim-spec = tie.close (tie.spec
     (λ b o at₀ index₀ left₀ at index left. Reaches mms b (o .at) (o .first) (o .count) at index left)
     (λ b o at₀ index₀ left₀ at index left. left) (λ c. search needs)
-    (λ c. begin mms (search needs) (search needs))
+    (λ c. begin mms (λ done. omega arith) (search needs))
     (λ c κs. search needs)
     (λ c. omega (arith, c .before .before .before .loop .inv .small))
     (λ c. omega (arith, c .before .is-plain .ensures (not-false _ (c .if1 .left)) .within))

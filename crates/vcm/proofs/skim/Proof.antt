@@ -13,7 +13,7 @@ pub skim-spec : {M : Type 1} → statement M
 skim-spec = tie.close (tie.spec
     (λ b o tail at₀ left₀ at left. Reaches (vcm (o .included)) b (o .at) (o .first) (o .count) at (o .first) left)
     (λ b o tail at₀ left₀ at left. left) (λ c κs. search needs)
-    (λ c. begin (vcm _) (search needs) (search needs))
+    (λ c. begin (vcm _) (λ done. omega arith) (search needs))
     (λ c κs. search needs)
     (λ c. omega (arith, c .before .is-plain .ensures (not-false _ (c .if1 .left)) 0 .within))
     (λ c. omega (arith, c .before .before .before .before .tail-of .ensures, c .before .is-plain .ensures (not-false _ (c .if1 .left)) 0 .within))
