@@ -12,7 +12,8 @@ count, and nor does one that names something which isn't there. Of one edit no t
 
 It also holds docs/PROMISES.md to the tree: every label is named there, one of code under a function of its crate, and how many there are;
 and every public function, those of public modules too, has its own paragraph there, two wrong answers that it refuses itself, and its theorem
-in proofs/Determined.antt, which says `Determined` of it but for the exceptions below. Run it behind rt ci or rt must-fail, in the repository's root.
+in proofs/Determined.antt, which says `Determined` of it, and `DeterminedBy` of one that reads (by which relation is for a reader to see). Run it behind rt ci or rt must-fail, in the
+repository's root.
 """
 import collections
 import pathlib
@@ -24,7 +25,7 @@ ERROR = re.compile(r"^(\S+):(\d+):\d+: error: `([^`]+)`: (.*)$")
 FOLLOWS = re.compile(r"`[^`]+` (?:was not admitted|cannot be unfolded because it was not admitted)|.*is not in scope")
 PUBLIC = re.compile(r'^pub (?:extern "C" )?fn (\w+)', re.MULTILINE)
 MODULE = re.compile(r"^pub mod (\w+);", re.MULTILINE)
-# what is read from outside decides these: docs/PROMISES.md, "The exceptions"
+# what they do is decided by what their reads gave, which comes from outside
 BY_READING = {("capture", "follow"), ("capture", "gather")}
 
 
@@ -149,9 +150,9 @@ def promised(root, labels, refusing, edits):
         crate = source.parent.parent.name
         theorems = source.parent.parent / "proofs" / "Determined.antt"
         for function in public_functions(source):
-            says = "" if (crate, function) in BY_READING else " Determined "
-            if not theorems.is_file() or f"pub {function}-determined :{says}" not in theorems.read_text(encoding="utf-8"):
-                fail(f"{theorems} has no {function}-determined, or it doesn't say 'Determined'")
+            says = "DeterminedBy" if (crate, function) in BY_READING else "Determined"
+            if not theorems.is_file() or f"pub {function}-determined : {says} " not in theorems.read_text(encoding="utf-8"):
+                fail(f"{theorems} has no {function}-determined, or it doesn't say '{says}'")
             if not re.search(rf"^\*\*`{crate}::(?:\w+::)?{function}\(", promises, re.MULTILINE):
                 fail(f"docs/PROMISES.md has no paragraph '**`{crate}::{function}(..)`**'")
             if refusing[crate, function] < 2:

@@ -3,12 +3,12 @@
 // not offered, and the answer says that one failed.
 ghost use mathlib.Core.Path.{_≡_};
 ghost use Prim.Native.Nat.{_+_, _≤_, _<_};
-ghost use mathlib.Core.List.{[]};
-ghost use lib.ListN.{length, take};
+ghost use mathlib.Core.List.{List};
+ghost use lib.ListN.{length};
+ghost use Rattle.rules.specs.Holding.{put};
 ghost use Rattle.rules.specs.Lineup.{freshBox};
-ghost use Rattle.stream.specs.Tallied as tallied;
-ghost use Rattle.stream.specs.Tallied.{intakeOf, Room};
-ghost use Rattle.capture.specs.Read.{Fed};
+ghost use Rattle.stream.specs.Tallied.{Room, Grew};
+ghost use Rattle.capture.specs.Read.{Given, gotBy, FollowedAs, GatheredAs};
 use stream::Absorbed;
 use stream::Tally;
 
@@ -40,7 +40,7 @@ pub struct Gathered {
 // Reads once.
 fn read_some(fd: i32, part: &mut [u8]) -> Got
     requires { ⌜ 0 < length (now part) ⌝ }
-    ensures { λ r. ⌜ r .count ≤ length (now (part .entry)) ⌝ }
+    ensures { λ r. ⌜ ((given : Given) × (r ≡ gotBy given) × (now (part .exit) ≡ given .part)) ⌝ }
 {
     let got = libc::read(fd, part);
     let count = io::count(got, part);
@@ -53,17 +53,19 @@ fn read_some(fd: i32, part: &mut [u8]) -> Got
 // Reads once, behind the bytes that are kept.
 fn refill(fd: i32, buffer: &mut [u8], kept: usize) -> Got
     requires { ⌜ kept < length (now buffer) ⌝ }
+    ensures { λ r. ⌜ ((given : Given) × (r ≡ gotBy given) × (now (buffer .exit) ≡ put (now (buffer .entry)) kept (given .part))) ⌝ }
     ensures { λ r. ⌜ kept + r .count ≤ length (now (buffer .entry)) ⌝ }
-    ensures { λ _. ⌜ take kept (now (buffer .exit)) ≡ take kept (now (buffer .entry)) ⌝ }
 {
     read_some(fd, &mut buffer[kept..])
 }
 
-// All that can be read.
+// All that can be read, up to the end of the input or a read that fails.
 pub fn follow(fd: i32, start: Tally, store: &mut [u8], buffer: &mut [u8]) -> Followed
     requires { ⌜ length (now buffer) ≡ 65536 ⌝ }
     requires { ⌜ Room start 9223372036854775808 ⌝ }
-    ensures { λ r. ⌜ Fed (intakeOf start (now (store .entry)) []) start 9223372036854775808 (r .held) (now (store .exit)) (now (buffer .exit)) ⌝ }
+    ensures { λ r. ⌜ ((given : List Given) × FollowedAs given start (now (store .entry)) (now (buffer .entry)) r (now (store .exit)) (now (buffer .exit))) ⌝ }
+    ensures { λ r. ⌜ Grew start (r .held .tally) 9223372036854775808 ⌝ }
+    ensures { λ r. ⌜ r .held .kept ≤ 4097 ⌝ }
 {
     let mut held = Absorbed {
         tally: start,
@@ -92,7 +94,7 @@ pub fn follow(fd: i32, start: Tally, store: &mut [u8], buffer: &mut [u8]) -> Fol
 pub fn gather(fd: i32, map: u16, store: &mut [u8], buffer: &mut [u8]) -> Gathered
     requires { ⌜ length (now buffer) ≡ 65536 ⌝ }
     requires { ⌜ now store ≡ freshBox map .store ⌝ }
-    ensures { λ r. ⌜ tallied.Gathered map (r .tally) (now (store .exit)) ⌝ }
+    ensures { λ r. ⌜ ((given : List Given) × GatheredAs given map (now (buffer .entry)) r (now (store .exit)) (now (buffer .exit))) ⌝ }
 {
     let followed = follow(fd, stream::begin(map), store, buffer);
     let kept = followed.held.kept;

@@ -3,6 +3,7 @@ use native.Mathlib.Omega.{arith}
 use mathlib.Core.Path.{refl}
 use denote.Ref.{now}
 use borrow.Author.Needs.{needs}
+use Rattle.capture.proofs.Laws.{some-pieces}
 use Rattle.printout.proofs.Shown.{all-shown, refused-shown}
 use Rattle.lineup.proofs.Laws.{refused-alone, with-rest}
 use Rattle.lineup.proofs.line_up.Statement.{statement}
@@ -21,7 +22,7 @@ line-up-spec = tie.close (tie.spec (λ c κs. search needs)
     let a = m .before .before .before .before in
     let p = c .print .ensures in
     let head = now (a .args .head) in
-    let all = all-shown head (m .map-of .result) (g .gather .result .tally) _ (m .map-of .ensures) (g .gather .ensures) (p .0) (p .1 .0) in (
+    let all = all-shown head (m .map-of .result) (g .gather .result .tally) _ (m .map-of .ensures) (some-pieces (g .gather .ensures .1)) (p .0) (p .1 .0) in (
       with-rest head _ _ _ (m .before .if1 .left) (a .pre .0) all,
       p .1 .1,
     )))
