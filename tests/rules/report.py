@@ -22,7 +22,7 @@ HEAD = """# Changed rules
 
 What `tests/rules/try` last said. It makes small changes of the rules (`crates/rules/specs`), one at a time, and asks the prover of each whether the
 computed facts still hold: those of `crates/examples` and, in `crates/rules/proofs`, `Examples` and `Readings`. It tries them on a copy that has the
-rules and these facts alone, so that no proof script that merely breaks counts as a refusal. `Offering`, `Answered`, `Runs` and `InParts` are
+rules and these facts alone, so that no proof script that merely breaks counts as a refusal. `Offering`, `Answered`, `Runs`, `InParts`, `Formed` and `Sent` are
 words of theorems and no rules: of them only the two definitions that compute are tried. A change that is *no rule* takes a neighbour of another type,
 so that the text is no definition. One that is *alike* is refused by no fact because it means the same; the reasons are below. A run can be continued
 (`--left`): what was refused before is then not tried again.
