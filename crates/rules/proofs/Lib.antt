@@ -1,5 +1,5 @@
--- The theorems about the rules. To read: the three conditions. What their statements say in words stands in specs/: InParts, Offering, Answered, Runs,
--- Growth, Meaning; the paper's examples below. Then the laws.
+-- The theorems about the rules. To read: the three conditions. What their statements say in words stands in specs/: InParts, Formed, Offering, Answered,
+-- Runs, Sent, Growth, Meaning; the paper's examples below. Then the laws.
 
 -- ---- the tender, sentence by sentence
 pub mod Condition1
