@@ -1,5 +1,6 @@
 -- Document 01, "Holding and going live", and refusals 1, 2, 12 and 13: every clause on both sides of its border, computed.
 use Prim.Native.Nat.{ℕ, _*_}
+use native.Mathlib.Omega.{arith}
 use mathlib.Core.Path.{_≡_, refl}
 use mathlib.Core.List.{List, [], _∷_, _++_, map}
 use mathlib.Core.Option.{none, some}
@@ -7,7 +8,7 @@ use lib.ListN.{length, replicate}
 use Rattle.rules.specs.Section.{Content, right, wrong}
 use Rattle.rules.specs.Holding.{placeOf, storeSize, sectionAt, put, listed, holdingOf, with, liveAt, gatheredAt, noneLive, noneGathered, freshHolding}
 use Rattle.rules.specs.Holding.{fresh, holds, allOf, liveFormed, gatheredFormed, sameVersion, holdingFormed, stepOf, offeredAs, offered, touches}
-use Rattle.rules.specs.Holding.{takesIn, storeAfter, answerTo, boxAfter}
+use Rattle.rules.specs.Holding.{takesIn, storeAfter, answerTo, boxAfter, OtherMapped}
 use Rattle.rules.specs.declared.Table.{Table}
 use Rattle.rules.specs.declared.Table.the-variants.{Cds, Mms, Vcm, Dcm}
 use Rattle.rules.specs.declared.LiveVersion.{LiveVersion}
@@ -168,6 +169,8 @@ pub record HoldingClauses : Type 0 where
       ≡ Stored 1 ∷ Stored 1 ∷ OtherMap ∷ OtherMap ∷ []
   pub other-map-state : map (λ t. offeredAs mixed (right (said t 0x0103 (revised 7 0 1))) .state) (Vcm ∷ Dcm ∷ []) ≡ mixed ∷ mixed ∷ []
   pub other-map-before : offeredAs mixed (right (said Vcm 0x0002 (revised 7 0 4))) .answer ≡ OtherMap
+  -- and in words
+  pub other-mapped : OtherMapped mixed (said Vcm 0x0103 (revised 7 0 1)) × OtherMapped mixed (said Dcm 0x0002 (revised 7 0 1))
   -- of our map its table's holding moves, and no other
   pub our-map : map (λ t. offeredAs mixed (right (said t 0x0102 (revised 7 0 0)))) (Cds ∷ Mms ∷ Vcm ∷ Dcm ∷ [])
       ≡ record { answer = Live 7; state = with mixed Cds (holding (live 1 7 0) noneGathered 1) }
@@ -278,6 +281,7 @@ holding-clauses =
       other-map = refl;
       other-map-state = refl;
       other-map-before = refl;
+      other-mapped = ((refl, λ e. omega (arith, e)), (refl, λ e. omega (arith, e)));
       our-map = refl;
       own-versions = refl;
       refused-state = refl;
