@@ -6,8 +6,8 @@ use borrow.Author.Tests.{eqb-true, eq-eqb}
 use Rattle.rules.specs.Gathering as Gathering
 use Rattle.rules.specs.Holding.{indexOf, sectionAt, holdingOf, liveAt, fresh, Box, run, box}
 use Rattle.rules.specs.{Offering.Wanted, declared.Table.Table, declared.State.State, declared.Revision.Revision}
-use Rattle.rules.specs.Tuning.{neededTables, tableLive, allLive, liveCount, liveReading, isSection, readsAs, placeReads, tableReads, allRead}
-use Rattle.rules.proofs.States.{each-at, each-so, lawful, all-fresh}
+use Rattle.rules.specs.Tuning.{tableLive, liveCount, liveReading, isSection, readsAs, placeReads, tableReads}
+use Rattle.rules.proofs.States.{lawful, all-fresh}
 use Rattle.rules.proofs.Lawful.{aside-no}
 use Rattle.rules.proofs.{Faithful.FaithfulBox, Faithful.faithful-run, Faithful.faithful-fresh, LivePlaces.every-so}
 
@@ -27,17 +27,11 @@ module _ (start : State) (b : Box) (f : FaithfulBox box start b) (t : Table) whe
       )
 
   -- each place of a live table "reads right as that table, map, version, number and last"
-  pub table-reads : tableLive (b .state) t ≡ true → tableReads (b .state) (b .store) t ≡ true
+  table-reads : tableLive (b .state) t ≡ true → tableReads (b .state) (b .store) t ≡ true
   unfolding tableLive tableReads liveCount Gathering.liveAt
   table-reads e =
       every-so (holdingOf (b .state) t .live .last + 1) (placeReads (b .state) (b .store) t)
       (λ n lt. place-reads n (f .tables t .live (eqb-true (holdingOf (b .state) t .live .present) 1 e) n (omega arith)))
-
--- all that tuning needs
-pub all-read : (start : State) (b : Box) → FaithfulBox box start b → allLive (b .state) ≡ true → allRead (b .state) (b .store) ≡ true
-unfolding allLive allRead
-all-read start b f e =
-    each-so neededTables (tableReads (b .state) (b .store)) (λ t h. table-reads start b f t (each-at neededTables (tableLive (b .state)) e t h))
 
 fresh-faithful : (map : ℕ) (store : List ℕ) (sections : List (List ℕ))
     → FaithfulBox box (fresh map) (run (record { state = fresh map; store = store }) sections)
@@ -45,8 +39,10 @@ fresh-faithful map store sections =
     faithful-run box lawful (fresh map) sections (record { state = fresh map; store = store })
     (faithful-fresh box (fresh map) store (all-fresh map))
 
--- whatever stood in the store and whatever is offered to a fresh box: once all tables are live, check 16 passes
-pub run-reads : (map : ℕ) (store : List ℕ) (sections : List (List ℕ)) → allLive (run (record { state = fresh map; store = store }) sections .state) ≡ true
-    → allRead (run (record { state = fresh map; store = store }) sections .state) (run (record { state = fresh map; store = store }) sections .store) ≡ true
+-- whatever stood in the store and whatever is offered to a fresh box: where a table is live, check 16 of it passes
+pub run-reads : (map : ℕ) (store : List ℕ) (sections : List (List ℕ)) (t : Table)
+    → tableLive (run (record { state = fresh map; store = store }) sections .state) t ≡ true
+    → tableReads (run (record { state = fresh map; store = store }) sections .state)
+    (run (record { state = fresh map; store = store }) sections .store) t ≡ true
 run-reads map store sections =
-    all-read (fresh map) (run (record { state = fresh map; store = store }) sections) (fresh-faithful map store sections)
+    table-reads (fresh map) (run (record { state = fresh map; store = store }) sections) (fresh-faithful map store sections)
