@@ -8,6 +8,7 @@ use lib.ListN.{length}
 use Rattle.rules.specs.Descriptors.{Descriptor}
 use Rattle.rules.specs.Layout.{Numbered}
 use Rattle.rules.specs.Tables.{carriersOf, carrierKhz}
+use Rattle.rules.specs.Form.{noLanguage}
 use Rattle.rules.specs.Section.{Structure, Content, right, readSection, check}
 use Rattle.rules.specs.Holding.{answers}
 use Rattle.rules.specs.Tuning.{carriersIn, modesIn, channelsIn, rangesIn, recordsIn, Plant, defined, lookUp}
@@ -30,29 +31,29 @@ use Rattle.rules.proofs.Computed.{computed}
 abbrev pub carriers : (first : ℕ) → List (Numbered Carriers) → Structure
 carriers first rs =
     record {
-      front = record { map = 0; first = first; count = length rs; included = 0; splice = 0; time = 0 };
-      lists = record { carriers = rs; modes = []; channels = []; ranges = [] };
+      front = record { map = 0; language = noLanguage; first = first; count = length rs; included = 0; splice = 0; time = 0 };
+      lists = record { carriers = rs; modes = []; channels = []; ranges = []; names = [] };
     }
 
 abbrev pub modes : (first : ℕ) → List (Numbered Mode) → Structure
 modes first rs =
     record {
-      front = record { map = 0; first = first; count = length rs; included = 0; splice = 0; time = 0 };
-      lists = record { carriers = []; modes = rs; channels = []; ranges = [] };
+      front = record { map = 0; language = noLanguage; first = first; count = length rs; included = 0; splice = 0; time = 0 };
+      lists = record { carriers = []; modes = rs; channels = []; ranges = []; names = [] };
     }
 
 abbrev pub channels : (map included splice time : ℕ) → List (Numbered Channel) → Structure
 channels map included splice time rs =
     record {
-      front = record { map = map; first = 0; count = length rs; included = included; splice = splice; time = time };
-      lists = record { carriers = []; modes = []; channels = rs; ranges = [] };
+      front = record { map = map; language = noLanguage; first = 0; count = length rs; included = included; splice = splice; time = time };
+      lists = record { carriers = []; modes = []; channels = rs; ranges = []; names = [] };
     }
 
 abbrev pub ranges : (map first : ℕ) → List (Numbered Range) → Structure
 ranges map first rs =
     record {
-      front = record { map = map; first = first; count = length rs; included = 0; splice = 0; time = 0 };
-      lists = record { carriers = []; modes = []; channels = []; ranges = rs };
+      front = record { map = map; language = noLanguage; first = first; count = length rs; included = 0; splice = 0; time = 0 };
+      lists = record { carriers = []; modes = []; channels = []; ranges = rs; names = [] };
     }
 
 -- the records that a section of each table says
@@ -63,6 +64,7 @@ said cds mms vcm dcm =
       modes = recordsIn modesIn (readSection mms);
       channels = recordsIn channelsIn (readSection vcm);
       ranges = recordsIn rangesIn (readSection dcm);
+      names = [];
     }
 
 -- what a section with the record of C1 reads as

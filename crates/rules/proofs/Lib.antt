@@ -41,7 +41,10 @@ pub mod Store  -- places, and bytes put into them
 pub mod Answered  -- tuning answers what is told, and nothing else
 pub mod Tunes  -- so does a channel record, and a search
 pub mod Reach  -- no frequency outside the tuner's reach
+pub mod Labels  -- the label question answers what is told, and nothing else
+pub mod ButNames  -- tuning needs no names
 pub mod LivePlaces  -- refusals 15 and 16, as they are told
+pub mod Standing  -- where records stand, and the label
 pub mod LiveReads  -- a fresh box never comes to 16
 pub mod Screen  -- what is tuned and printed was sent
 pub mod Lowest  -- the lowest section first

@@ -33,16 +33,16 @@ module _ (start : State) (b : Box) (f : FaithfulBox box start b) (t : Table) whe
       every-so (holdingOf (b .state) t .live .last + 1) (placeReads (b .state) (b .store) t)
       (λ n lt. place-reads n (f .tables t .live (eqb-true (holdingOf (b .state) t .live .present) 1 e) n (omega arith)))
 
-fresh-faithful : (map : ℕ) (store : List ℕ) (sections : List (List ℕ))
-    → FaithfulBox box (fresh map) (run (record { state = fresh map; store = store }) sections)
-fresh-faithful map store sections =
-    faithful-run box lawful (fresh map) sections (record { state = fresh map; store = store })
-    (faithful-fresh box (fresh map) store (all-fresh map))
+fresh-faithful : (map : ℕ) (language store : List ℕ) (sections : List (List ℕ))
+    → FaithfulBox box (fresh map language) (run (record { state = fresh map language; store = store }) sections)
+fresh-faithful map language store sections =
+    faithful-run box lawful (fresh map language) sections (record { state = fresh map language; store = store })
+    (faithful-fresh box (fresh map language) store (all-fresh map language))
 
 -- whatever stood in the store and whatever is offered to a fresh box: where a table is live, check 16 of it passes
-pub run-reads : (map : ℕ) (store : List ℕ) (sections : List (List ℕ)) (t : Table)
-    → tableLive (run (record { state = fresh map; store = store }) sections .state) t ≡ true
-    → tableReads (run (record { state = fresh map; store = store }) sections .state)
-    (run (record { state = fresh map; store = store }) sections .store) t ≡ true
-run-reads map store sections =
-    table-reads (fresh map) (run (record { state = fresh map; store = store }) sections) (fresh-faithful map store sections)
+pub run-reads : (map : ℕ) (language store : List ℕ) (sections : List (List ℕ)) (t : Table)
+    → tableLive (run (record { state = fresh map language; store = store }) sections .state) t ≡ true
+    → tableReads (run (record { state = fresh map language; store = store }) sections .state)
+    (run (record { state = fresh map language; store = store }) sections .store) t ≡ true
+run-reads map language store sections =
+    table-reads (fresh map language) (run (record { state = fresh map language; store = store }) sections) (fresh-faithful map language store sections)

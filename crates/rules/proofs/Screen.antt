@@ -5,7 +5,7 @@ use native.Mathlib.Omega.{arith}
 use mathlib.Core.Path.{_≡_, refl, ap, subst, _∙_}
 use mathlib.Core.{Logic._⊎_, Logic.inl, Logic.inr}
 use mathlib.Core.List.{List, [], _∷_, _++_, flatten}
-use lib.{ListN.length, ListN.take, ListN.take-append-drop}
+use lib.{ListN.length, ListN.take, ListN.drop, ListN.take-append-drop}
 use borrow.Author.Tests.{ne-eqb, le-ltb}
 use Rattle.rules.specs.{Bytes.word, Bytes.from, Layout.Numbered, Section.Structure, Section.Content, Section.wrong, Section.right}
 use Rattle.rules.specs.{Section.Reading, Section.readSection, Section.lengthOf, Steps.freshHolding}
@@ -14,14 +14,15 @@ use Rattle.rules.specs.Tuning.{carriersIn, modesIn, channelsIn, rangesIn
 use Rattle.rules.specs.Answered.{First, Nowhere, Lowest, CarrierIs, ModeIs, ChannelIs, RangeIs, Carried, Tunes, application, no-carrier, out-of-reach}
 use Rattle.rules.specs.Answered.{analogue, no-mode, digital, Defined, Looked, not-defined, no-record, recorded, EachLive, Answered}
 use Rattle.rules.specs.Answered.{short, unformed, high, not-live, unread, looked-up}
-use Rattle.rules.specs.Lineup.{cut, sectionsOf, freshBox, channelLine, channelLines, linesOf, printed, printedOf, lineup}
+use Rattle.rules.specs.Lineup.{cut, sectionsOf, english, freshBox, channelLine, channelLines, linesOf, printed, printedOf, lineup}
 use Rattle.rules.specs.Sent as Sent
-use Rattle.rules.specs.Sent.{SentAs, RecordSent, ChannelSent, FrequencySent, ModeSent, Screen, RunToScreen, LineupSent}
+use Rattle.rules.specs.Sent.{SentAs, RecordSent, ChannelSent, FrequencySent, ModeSent, Screen, LabelSent, RunToScreen, LineupSent}
+use Rattle.rules.specs.Labelling.{NameIs, namesIn, NamedBy}
 use Rattle.rules.specs.{declared.Table.Table, declared.Channel.Channel, declared.Tuned.Tuned, declared.Mode.Mode}
-use Rattle.rules.specs.declared.Table.the-variants.{Cds, Mms, Vcm, Dcm}
+use Rattle.rules.specs.declared.Table.the-variants.{Cds, Mms, Vcm, Dcm, Ntt}
 use Rattle.rules.specs.declared.Tuned.the-variants as Tuned
 use Rattle.rules.proofs.{States.lawful, States.all-fresh, Sent.live-sent, Answered.answered, Lowest.live-lowest, Firsts.parted, Firsts.nothing-in}
-use Rattle.rules.proofs.{Places.from-length, SentOnce.sent-once}
+use Rattle.rules.proofs.{Places.from-length, SentOnce.sent-once, Labels.named-is}
 
 -- ---- tuning
 
@@ -128,6 +129,20 @@ module _ (start : Box) (new : (t : Table) → holdingOf (start .state) t ≡ fre
       go x (unread a l n) = Sent.refused
       go x (looked-up a l r u) = looked-sent number l x u
 
+  -- ---- labels
+
+  label-sent : (number start-at size : ℕ) → NamedBy (end .state) (end .store) number start-at size
+      → LabelSent start sections number (take size (drop start-at (end .store)))
+  label-sent number start-at size n =
+      let r = n .recorded in
+      record {
+        channel = n .channel;
+        channel-sent = rw (r .is) (channel-sent number (r .labelable .live) (r .entry) (r .defined) (r .first));
+        entry = n .entry;
+        sent = record-sent (NameIs (n .channel .application) (n .channel .source)) namesIn Ntt (n .live) (n .entry) (n .first);
+        is = n .bytes;
+      }
+
 -- ---- the printed lines
 
 -- a list of one
@@ -152,16 +167,16 @@ record Of (tuned : ℕ → Tuned) (n number : ℕ) (line : List ℕ) : Type 0 wh
   is : channelLine channel (tuned channel) ≡ line ∷ []
 
 line-of : (tuned : ℕ → Tuned) (n number : ℕ) (above : List (List ℕ)) (line : List ℕ) (below : List (List ℕ))
-    → channelLines tuned n number ≡ above ++ (line ∷ below) → Of tuned n number line
+    → channelLines (λ k. channelLine k (tuned k)) n number ≡ above ++ (line ∷ below) → Of tuned n number line
 unfolding channelLines
 line-of tuned zero number above line below e = absurd (nothing-in above line below e)
 line-of tuned (suc n) number above line below e =
-    go (parted (channelLine number (tuned number)) (channelLines tuned n (number + 1)) above line below e)
+    go (parted (channelLine number (tuned number)) (channelLines (λ k. channelLine k (tuned k)) n (number + 1)) above line below e)
     (λ more. line-of tuned n (number + 1) more line below)
   where
     go : ((rest : List (List ℕ)) × (channelLine number (tuned number) ≡ above ++ (line ∷ rest)))
-        ⊎ ((more : List (List ℕ)) × (above ≡ channelLine number (tuned number) ++ more) × (channelLines tuned n (number + 1) ≡ more ++ (line ∷ below)))
-        → ((more : List (List ℕ)) → channelLines tuned n (number + 1) ≡ more ++ (line ∷ below) → Of tuned n (number + 1) line)
+        ⊎ ((more : List (List ℕ)) × (above ≡ channelLine number (tuned number) ++ more) × (channelLines (λ k. channelLine k (tuned k)) n (number + 1) ≡ more ++ (line ∷ below)))
+        → ((more : List (List ℕ)) → channelLines (λ k. channelLine k (tuned k)) n (number + 1) ≡ more ++ (line ∷ below) → Of tuned n (number + 1) line)
         → Of tuned (suc n) number line
     go (inl (rest, q)) later =
         record { channel = number; from = omega arith; low = omega arith; is = one-line number (tuned number) above line rest q }
@@ -190,6 +205,8 @@ run-to-screen start new sections =
     record {
       live = live-sent box lawful start new sections;
       tuned = screen-sent start new sections;
+      labelled = λ number at size e.
+          label-sent start new sections number at size (named-is (run start sections .state) (run start sections .store) number at size e);
       printed = λ above below line e.
           let o = line-of (tune (run start sections .state) (run start sections .store)) 4096 0 above line below e in
           record {
@@ -205,6 +222,6 @@ unfolding lineup printedOf printed freshBox sectionsOf
 lineup-sent input long =
     record {
       is = rw (le-ltb (length input) 2 long) refl;
-      to-screen = run-to-screen (freshBox (word 0 input)) (all-fresh (word 0 input)) (sectionsOf (from input 2));
+      to-screen = run-to-screen (freshBox (word 0 input)) (all-fresh (word 0 input) english) (sectionsOf (from input 2));
       all-bytes = cut-all (length (from input 2)) (from input 2) (omega arith);
     }

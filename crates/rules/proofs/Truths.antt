@@ -2,6 +2,7 @@
 use Prim.Native.Nat.{ℕ, _≤_}
 use native.Mathlib.Omega.{arith}
 use mathlib.Core.Path.{_≡_, refl, sym, _∙_}
+use mathlib.Core.{Logic._⊎_, Logic.inl, Logic.inr}
 use mathlib.Core.Bool.{Bool, true, false, _&&_, _||_}
 use lib.Dec.{eqb, leb}
 use borrow.Author.Tests.{eq-eqb, le-leb}
@@ -33,6 +34,11 @@ neither-left false b e = refl
 pub neither-right : (a b : Bool) → (a || b) ≡ false → b ≡ false
 neither-right true b e = absurd (differ e)
 neither-right false b e = e
+
+-- one of the two
+pub or-says : (a b : Bool) → (a || b) ≡ true → (a ≡ true) ⊎ (b ≡ true)
+or-says true b e = inl refl
+or-says false b e = inr e
 
 pub or-right : (a b : Bool) → b ≡ true → (a || b) ≡ true
 or-right true b e = refl

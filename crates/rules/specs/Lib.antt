@@ -2,6 +2,7 @@ pub mod Bytes
 pub mod Crc
 pub mod Descriptors
 pub mod Layout
+pub mod Text
 pub mod Tables
 pub mod Search
 pub mod Form
@@ -15,10 +16,14 @@ pub mod Gathering
 pub mod Offering
 pub mod Holding
 pub mod Tuning
+pub mod Standing
+pub mod Label
 pub mod Answered
+pub mod Labelling
 pub mod Runs
 pub mod Said
 pub mod Lineup
+pub mod LabelLines
 pub mod Sent
 pub mod Feeding
 pub mod Growth

@@ -54,9 +54,14 @@ cut (suc most) bs =
 unfoldable pub sectionsOf : List ℕ → List (List ℕ)
 sectionsOf bs = cut (length bs) bs
 
+-- request 2026-01: "lineup starts with "eng""
+unfoldable pub english : List ℕ
+english = text "eng"
+
 -- a fresh box, with a store of zero bytes
 unfoldable pub freshBox : (map : ℕ) → Box
-freshBox map = record { state = fresh map; store = replicate (storeSize (limitOf (fresh map))) 0 }
+freshBox map =
+    record { state = fresh map english; store = replicate (storeSize (limitOf (fresh map english))) 0 }
 
 -- ---- the lines
 
@@ -80,6 +85,7 @@ versionLines s =
     ++ line "mms=" (version (s .tables .mms .live))
     ++ line "vcm=" (version (s .tables .vcm .live))
     ++ line "dcm=" (version (s .tables .dcm .live))
+    ++ line "ntt=" (version (s .tables .ntt .live))
 
 -- what the lines of the three kinds have in front, and what a digital one has behind
 unfoldable pub front : (number : ℕ) → (kind : String) → (hidden path : ℕ) → List ℕ
@@ -113,12 +119,12 @@ channelLine number (Tuned.Application hidden path application) =
     (front number " kind=application" hidden path ++ field " application=" application ++ text "\n") ∷ []
 
 -- the lines of n channels from a number on, ascending
-unfoldable pub channelLines : (ℕ → Tuned) → (n number : ℕ) → List (List ℕ)
-channelLines tuned zero number = []
-channelLines tuned (suc n) number = channelLine number (tuned number) ++ channelLines tuned n (number + 1)
+unfoldable pub channelLines : (lineOf : ℕ → List (List ℕ)) → (n number : ℕ) → List (List ℕ)
+channelLines lineOf zero number = []
+channelLines lineOf (suc n) number = lineOf number ++ channelLines lineOf n (number + 1)
 
--- "It prints key=value lines in this order: lineup=1, map, sections (offered), refused, cds, mms, vcm, dcm (live version or
--- none), channels (those that tune or are applications),
+-- "It prints key=value lines in this order: lineup=1, map, sections (offered), refused, cds, mms, vcm, dcm" and, by request
+-- 2026-01, "ntt after dcm", "(live version or none), channels (those that tune or are applications),
 unfoldable pub heading : State → (sections refused channels : ℕ) → List ℕ
 heading s sections refused channels =
     text "lineup=1\n"
@@ -130,7 +136,7 @@ heading s sections refused channels =
 
 -- then one line each, ascending."
 unfoldable pub linesOf : Box → List (List ℕ)
-linesOf b = channelLines (tune (b .state) (b .store)) 4096 0
+linesOf b = channelLines (λ number. channelLine number (tune (b .state) (b .store) number)) 4096 0
 
 unfoldable pub printed : Box → (sections refused : ℕ) → List ℕ
 printed b sections refused =

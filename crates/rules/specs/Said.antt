@@ -1,5 +1,5 @@
 -- Document 01, "Expected form in each place": "An answer may be an enum. In that case, a definition gives this paper's number and values for
--- each of the enum's cases, and the promises use that definition." The four enums that an entry point answers, in the paper's terms.
+-- each of the enum's cases, and the promises use that definition." The enums that an entry point answers, in the paper's terms.
 use Prim.Native.Nat.{ℕ, _≤_}
 use Prim.Native.String.{String}
 use mathlib.Core.Logic.{_⊎_}
@@ -7,6 +7,7 @@ use mathlib.Core.List.{List, [], _∷_, _++_}
 use Rattle.rules.specs.Section.{readSection, readAs, ask}
 use Rattle.rules.specs.Holding.{indexOf, offered}
 use Rattle.rules.specs.Tuning.{tune}
+use Rattle.rules.specs.Label.{labelled}
 use Rattle.rules.specs.declared.Mode.{Mode}
 use Rattle.rules.specs.declared.SectionHead.{SectionHead}
 use Rattle.rules.specs.declared.State.{State}
@@ -18,6 +19,8 @@ use Rattle.rules.specs.declared.Answer.{Answer}
 use Rattle.rules.specs.declared.Answer.the-variants as Answer
 use Rattle.rules.specs.declared.Tuned.{Tuned}
 use Rattle.rules.specs.declared.Tuned.the-variants as Tuned
+use Rattle.rules.specs.declared.Labelled.{Labelled}
+use Rattle.rules.specs.declared.Labelled.the-variants as Labelled
 
 -- the number of the refusal, or 0 where there is none; the paper's word; and the values that go with it
 pub record Said : Type 0 where
@@ -38,6 +41,9 @@ unfoldable pub headValues : SectionHead → List ℕ
 headValues h =
     indexOf (h .table)
     ∷ h .map
+    ∷ h .language .first
+    ∷ h .language .second
+    ∷ h .language .third
     ∷ h .revision .version
     ∷ h .revision .number
     ∷ h .revision .last
@@ -78,6 +84,13 @@ tunedSaid (Tuned.Analogue hidden path khz standard scrambled) =
     says "analogue" (khz ∷ standard ∷ scrambled ∷ path ∷ hidden ∷ [])
 tunedSaid (Tuned.Application hidden path number) = says "application" (number ∷ path ∷ hidden ∷ [])
 
+-- ---- request 2026-01, a label: "the name bytes", a part of the store, which begins there and has so many bytes, or "the fallback label"
+
+unfoldable pub labelSaid : Labelled → Said
+labelSaid (Labelled.Refused n) = refusedBy n
+labelSaid (Labelled.Named start size) = says "name" (start ∷ size ∷ [])
+labelSaid Labelled.Fallback = says "fallback" []
+
 -- ---- what document 01 answers, in these terms: to a section, to the question for a descriptor, to an offer, to a channel number
 
 unfoldable pub sectionSaid : (section : List ℕ) → Said
@@ -92,6 +105,9 @@ offerSaid s store section = answerSaid (offered s store section .answer)
 unfoldable pub tuneSaid : State → (store : List ℕ) → (number : ℕ) → Said
 tuneSaid s store number = tunedSaid (tune s store number)
 
+unfoldable pub askLabelSaid : State → (store : List ℕ) → (number : ℕ) → Said
+askLabelSaid s store number = labelSaid (labelled s store number)
+
 -- ---- the numbers of refusal that each can give
 
 -- a section: 3 to 11
@@ -105,3 +121,7 @@ OfOffer n = (1 ≤ n) × (n ≤ 13)
 -- tuning: 1, 2, and 14 to 21
 abbrev pub OfTuning : ℕ → Type 0
 OfTuning n = ((1 ≤ n) × (n ≤ 2)) ⊎ ((14 ≤ n) × (n ≤ 21))
+
+-- a label: 1, 2, and 14 to 18
+abbrev pub OfLabel : ℕ → Type 0
+OfLabel n = ((1 ≤ n) × (n ≤ 2)) ⊎ ((14 ≤ n) × (n ≤ 18))

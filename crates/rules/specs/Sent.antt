@@ -3,19 +3,20 @@
 use Prim.Native.Nat.{ℕ, _-_, _≤_, _<_}
 use mathlib.Core.Path.{_≡_}
 use mathlib.Core.List.{List, [], _∷_, _++_, flatten}
-use lib.ListN.{length}
+use lib.ListN.{length, take, drop}
 use Rattle.rules.specs.Bytes.{from}
 use Rattle.rules.specs.Layout.{Numbered}
-use Rattle.rules.specs.Tables.{carrierKhz}
+use Rattle.rules.specs.Tables.{carrierKhz, Name}
 use Rattle.rules.specs.Section.{Structure, Content, right, readSection}
 use Rattle.rules.specs.Gathering.{Collector, BoxOf, answerTo, boxAfter, run}
 use Rattle.rules.specs.Offering.{GatheredIs, Wanted}
 use Rattle.rules.specs.Holding.{sectionAt, holdingOf, liveAt, Box, box, answers}
 use Rattle.rules.specs.Tuning.{carriersIn, modesIn, channelsIn, rangesIn, hidden, tune}
+use Rattle.rules.specs.{Label.labelled, Labelling.NameIs, Labelling.namesIn}
 use Rattle.rules.specs.Answered.{First, Nowhere, CarrierIs, ModeIs, ChannelIs, RangeIs}
 use Rattle.rules.specs.Lineup.{refusals, channelLine, heading, linesOf, lineup}
 use Rattle.rules.specs.declared.Table.{Table}
-use Rattle.rules.specs.declared.Table.the-variants.{Cds, Mms, Vcm, Dcm}
+use Rattle.rules.specs.declared.Table.the-variants.{Cds, Mms, Vcm, Dcm, Ntt}
 use Rattle.rules.specs.declared.Carriers.{Carriers}
 use Rattle.rules.specs.declared.Mode.{Mode}
 use Rattle.rules.specs.declared.Channel.{Channel}
@@ -24,6 +25,7 @@ use Rattle.rules.specs.declared.Range.{Range}
 use Rattle.rules.specs.declared.Answer.the-variants.{Live}
 use Rattle.rules.specs.declared.Tuned.{Tuned}
 use Rattle.rules.specs.declared.Tuned.the-variants as Tuned
+use Rattle.rules.specs.declared.Labelled.the-variants as Labelled
 
 -- ---- a live section was sent
 
@@ -111,6 +113,14 @@ module _ (b : Box) (sections : List (List ℕ)) where
         → c .signal ≡ Signal.Digital program reference → FrequencySent c khz → ModeSent reference m
         → Screen number (Tuned.Digital (hidden c) (c .path) khz program m)
 
+  -- the bytes of a name that labels a channel: its channel record was sent, and so was the first name record with its flag and number
+  pub record LabelSent (number : ℕ) (bytes : List ℕ) : Type 0 where
+    pub channel : Channel
+    pub channel-sent : ChannelSent number channel
+    pub entry : Numbered Name
+    pub sent : RecordSent (NameIs (channel .application) (channel .source)) namesIn Ntt entry
+    pub is : bytes ≡ entry .what .name
+
   -- a printed line of a channel
   pub record LineSent (line : List ℕ) : Type 0 where
     pub number : ℕ
@@ -121,11 +131,13 @@ module _ (b : Box) (sections : List (List ℕ)) where
 -- ---- from the run to the screen
 
 -- of a box, after a run: every live section is a section of the run, what every channel number is tuned to comes from records of such sections, and so
--- does every line that is printed of a channel
+-- does every name that labels a channel, and every line that is printed of one
 pub record RunToScreen (b : Box) (sections : List (List ℕ)) : Type 0 where
   pub live : (t : Table) → holdingOf (run box b sections .state) t .live .present ≡ 1 → (n : ℕ) → n ≤ holdingOf (run box b sections .state) t .live .last
       → SentAs box b sections t n (sectionAt (run box b sections .store) (liveAt (run box b sections .state) t n))
   pub tuned : (number : ℕ) → Screen b sections number (tune (run box b sections .state) (run box b sections .store) number)
+  pub labelled : (number start size : ℕ) → labelled (run box b sections .state) (run box b sections .store) number ≡ Labelled.Named start size
+      → LabelSent b sections number (take size (drop start (run box b sections .store)))
   pub printed : (above below : List (List ℕ)) (line : List ℕ) → linesOf (run box b sections) ≡ above ++ (line ∷ below) → LineSent b sections line
 
 -- of an input: its line-up is a heading and the lines of the channels, of a fresh box to which its sections were sent, and these are all its bytes

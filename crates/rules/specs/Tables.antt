@@ -1,11 +1,12 @@
--- Document 01, "Bytes of a section": the records of the four tables and the heads of VCM and DCM, bit by bit; and of
--- "Numbers of refusal" their clauses of 10 (first index 0 is the header's: Form.antt). Where document 003 says another
--- limit, document 01 wins.
+-- Document 01, "Bytes of a section": the records of the tables and the heads of VCM and DCM, bit by bit; and of "Numbers of
+-- refusal" their clauses of 10 (first index 0 is the header's: Form.antt). Where document 003 says another limit, document 01
+-- wins. At the end the names of request 2026-01.
 use Prim.Native.Nat.{ℕ, _+_, _*_, _/_, _%_}
 use mathlib.Core.Bool.{Bool, true, false, cond, _&&_, _||_}
 use mathlib.Core.List.{List, [], _∷_}
 use lib.Dec.{leb, ltb, eqb}
-use Rattle.rules.specs.Bytes.{byte, word}
+use Rattle.rules.specs.Bytes.{byte, word, from}
+use Rattle.rules.specs.Text.{goodText}
 use Rattle.rules.specs.Layout.{Block, fixed, Layout}
 use Rattle.rules.specs.declared.Measure.{Measure}
 use Rattle.rules.specs.declared.Carriers.{Carriers}
@@ -181,4 +182,36 @@ dcm =
       fair = rangeFair;
       takes = λ r. r .count;
       described = false;
+    }
+
+-- ---- Request 2026-01, "the Network Text Table, 0xC3, source name subtable 6". NTT: record count (8)
+
+unfoldable pub nttHead : Block ℕ
+nttHead = fixed 1 (λ r. true) (byte 0)
+
+-- ---- a name record, 4 bytes and the name: application (1), zero (7); number (16); name length (8); so many bytes of name
+
+pub record Name : Type 0 where
+  pub application : ℕ
+  pub number : ℕ
+  pub name : List ℕ
+
+unfoldable pub nameZeros : List ℕ → Bool
+nameZeros r = eqb (byte 0 r % 128) 0
+
+unfoldable pub nameOf : List ℕ → Name
+nameOf r = record { application = byte 0 r / 128; number = word 1 r; name = from r 4 }
+
+-- refusal 10: "also for text that breaks section 7.1"
+unfoldable pub nameFair : ℕ → Name → Bool
+nameFair index n = goodText (n .name)
+
+-- a name record carries its number itself and takes no index; a descriptor count and descriptors follow, always
+unfoldable pub ntt : Layout Name
+ntt =
+    record {
+      block = record { size = 4; more = byte 3; zeros = nameZeros; look = nameOf };
+      fair = nameFair;
+      takes = λ n. 0;
+      described = true;
     }

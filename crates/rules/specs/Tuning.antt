@@ -26,7 +26,7 @@ use Rattle.rules.specs.declared.Tuned.the-variants as Tuned
 
 -- ---- refusals 15 and 16: the live places
 
--- the tables that tuning needs
+-- the tables that tuning needs; request 2026-01: "15 is unchanged, since tuning needs no names"
 abbrev pub neededTables : List Table
 neededTables = Cds ∷ Mms ∷ Vcm ∷ Dcm ∷ []
 
@@ -72,7 +72,7 @@ tableReads s store t = every (liveCount s t) (placeReads s store t)
 unfoldable pub allRead : State → List ℕ → Bool
 allRead s store = each neededTables (tableReads s store)
 
--- ---- the live records of the four tables
+-- ---- the live records of the tables
 
 abbrev pub carriersIn : Structure → List (Numbered Carriers)
 carriersIn x = x .lists .carriers
@@ -98,7 +98,7 @@ liveSection records s store t n = recordsIn records (liveReading s store t n)
 unfoldable pub liveRecords : {R : Type 0} → (Structure → List R) → State → List ℕ → Table → List R
 liveRecords records s store t = sections (liveSection records s store t) (liveCount s t) 0
 
--- the live records of all tables
+-- the live records of the tables that tuning needs
 unfoldable pub plant : State → List ℕ → Plant
 plant s store =
     record {
@@ -106,6 +106,7 @@ plant s store =
       modes = liveRecords modesIn s store Mms;
       channels = liveRecords channelsIn s store Vcm;
       ranges = liveRecords rangesIn s store Dcm;
+      names = [];
     }
 
 -- ---- the four tests of the searches

@@ -7,6 +7,7 @@ pub enum Table {
     Mms,
     Vcm,
     Dcm,
+    Ntt,
 }
 
 // ---- what a record says, field by field as it is sent
@@ -70,6 +71,13 @@ pub struct DcmHead {
     pub count: u8,
 }
 
+// The three language bytes of a names section. (An array would do, if an enum could hold one: a section's head stands in one.)
+pub struct Language {
+    pub first: u8,
+    pub second: u8,
+    pub third: u8,
+}
+
 // The first three body bytes of the revision descriptor without their reserved bits.
 pub struct Revision {
     pub version: u8,
@@ -77,11 +85,12 @@ pub struct Revision {
     pub last: u8,
 }
 
-// What a section that reads right is, for one who holds its bytes: its table and map number (0 where the table has none), its
-// revision, and the place where its closing list begins.
+// What a section that reads right is, for one who holds its bytes: its table, map number and language (0 where the table has none),
+// its revision, and the place where its closing list begins.
 pub struct SectionHead {
     pub table: Table,
     pub map: u16,
+    pub language: Language,
     pub revision: Revision,
     pub closing: usize,
 }
@@ -123,9 +132,10 @@ pub struct Holding {
     pub half: u8,
 }
 
-// What is given at the start and never changes: the map number.
+// What is given at the start and never changes: the map number, and the language of names.
 pub struct Settings {
     pub map: u16,
+    pub language: [u8; 3],
 }
 
 // What is held of each table.
@@ -134,6 +144,7 @@ pub struct Tables {
     pub mms: Holding,
     pub vcm: Holding,
     pub dcm: Holding,
+    pub ntt: Holding,
 }
 
 // The tables stand first, so that each holding begins at a multiple of its size: a state is copied by value, and quickly so.
@@ -187,4 +198,11 @@ pub enum Tuned {
         path: u8,
         number: u16,
     },
+}
+
+// To the question for a channel's label: the name is the `size` bytes at `start` of the store, or the label is the lent fallback.
+pub enum Labelled {
+    Refused(u8),
+    Named { start: usize, size: usize },
+    Fallback,
 }
