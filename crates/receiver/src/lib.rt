@@ -19,11 +19,11 @@ use rules::Tables;
 
 // Bytes of the store of a fresh box: an array's length can't be asked of `state::store_size`. That it is as long as the rule says is a law
 // (`fresh-store`), which `lineup` and `runs` cite; where it is not used, as in `trace`, check 1 looks at every store.
-pub const STORE: usize = 32768;
+pub const STORE: usize = 40960;
 
-// Nothing live, nothing gathered, and the half set to 1, so that gathering uses half 0.
-pub fn start(map: u16) -> State
-    ensures { λ x. ⌜ x ≡ fresh map ⌝ }
+// A box for a map and a language: nothing live, nothing gathered, and the half set to 1, so that gathering uses half 0.
+pub fn start(map: u16, language: [u8; 3]) -> State
+    ensures { λ x. ⌜ x ≡ fresh map language ⌝ }
 {
     let none = Holding {
         live: LiveVersion {
@@ -45,8 +45,9 @@ pub fn start(map: u16) -> State
             mms: none,
             vcm: none,
             dcm: none,
+            ntt: none,
         },
-        settings: Settings { map },
+        settings: Settings { map, language },
     }
 }
 
@@ -71,7 +72,8 @@ fn answer_to(s: State, head: SectionHead) -> Offered
 {
     let t = head.table;
     // step 1
-    if state::is_for_other(s, t, head.map) {
+    let language = head.language;
+    if state::is_for_other(s, t, head.map, language) {
         return Offered {
             answer: Answer::OtherMap,
             state: s,

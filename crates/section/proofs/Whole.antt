@@ -7,7 +7,7 @@ use lib.{ListN.length, ListN.take, Dec.leb, Dec.ltb}
 use borrow.Author.Tests.{eq-eqb, ne-eqb, lt-ltb, le-ltb}
 use Rattle.rules.specs.Bytes.{Got, refused, got, unless, andThen, giving, byte, from}
 use Rattle.rules.specs.{Crc.crcOf, Descriptors.Descriptor, Descriptors.closing, Descriptors.bodies, Form.Front, Form.form, declared.Table.Table}
-use Rattle.rules.specs.{declared.Revision.Revision, declared.SectionHead.SectionHead}
+use Rattle.rules.specs.{declared.Language.Language, declared.Revision.Revision, declared.SectionHead.SectionHead}
 use Rattle.rules.specs.Layout.{Block, extent, taken, Numbered, records}
 use Rattle.rules.specs.Section.{isNumber, mediumAt, named, given, headerOf, Headed, headerBy, header, inFront, Structure, structure, revisionTag}
 use Rattle.rules.specs.Section.{revision, Content, contentOf, content, fitting, withoutCrc, whole, Reading, wrong, right, read, readSection, sizeOf}
@@ -17,7 +17,7 @@ use Rattle.rules.specs.declared.Read.the-variants as reads
 use Rattle.rules.specs.declared.Asked.the-variants as asked
 use Rattle.rules.proofs.Taken.{unless-got, given-got, giving-got, then-got, taken-got}
 use Rattle.rules.proofs.{Asking.asked-inside, Closing.closing-size, Places.from-length, Right.reads-right, Right.closing-place}
-use Rattle.fields.specs.Outline.{headerSays, behindHeader, layoutOf, fronted}
+use Rattle.fields.specs.Outline.{headerSize, headerSays, behindHeader, layoutOf, fronted}
 use Rattle.fields.specs.Place.{placeOrEnd}
 use Rattle.fields.specs.declared.Outline.{Outline}
 use Rattle.fields.proofs.{Laws.place-inside, Outlines.laid, Outlines.Area}
@@ -127,7 +127,7 @@ unfolding andThen
 content-unheaded b n e = content-by b ∙ rw (header-no (headed b) n e)
 
 -- a header that names a table is whole, says what its bytes say, and leaves those behind them
-pub content-headed : (b : List ℕ) (t : Table) → header.Names t ≡ headerAs (headed b) → (content b ≡ behind t b) × (7 ≤ length b)
+pub content-headed : (b : List ℕ) (t : Table) → header.Names t ≡ headerAs (headed b) → (content b ≡ behind t b) × (headerSize t ≤ length b)
 unfolding andThen behind
 content-headed b t e =
     let g = header-names (headed b) t e in
@@ -135,7 +135,7 @@ content-headed b t e =
     let k = taken-got _ _ b (g .0 .front) (g .1) (headed-got b (g .0) (g .1) (g .3)) in
     let is : g .0 ≡ record { table = u; front = headerSays u b } = ap (λ (x : Front). record { table = u; front = x }) (k .is) in (
       content-by b ∙ ap (λ (x : Got Headed). andThen x judged) (g .3) ∙ ap₂ judged is (k .behind) ∙ ap (λ (v : Table). behind v b) (g .2),
-      omega (arith, k .fits, laid u .seven b),
+      subst (λ (v : Table). headerSize v ≤ length b) (g .2) (omega (arith, k .fits, laid u .header b)),
     )
 
 abbrev made : Table → Structure → List Descriptor → Revision → Content
@@ -215,12 +215,15 @@ module _ (t : Table) (b : List ℕ) where
       list-got r q = let c = closed-got _ r q in let d = then-got _ _ _ _ (c .1) in (d .value, d .behind, c .0, d .one, d .more)
 
       pub read-right : at ≤ length b → (r : Revision) → closed.Revised r ≡ closedAs (closedOf (from b at))
-          → reads.Right (record { table = t; map = o .map; revision = r; closing = at }) ≡ answeredAs b (behind t b)
+          → (l : Language) → l ≡ headerSays t b .language
+          → reads.Right (record { table = t; map = o .map; language = l; revision = r; closing = at }) ≡ answeredAs b (behind t b)
       unfolding answeredAs headOf closingAt andThen giving
-      read-right h r q =
-          let l = list-got r q in
-          let p : length b - sizeOf (l .0) ≡ at = omega (arith, closing-size (from b at) (l .0) (l .1) (l .3), from-length b at) in
-          rw (behind-ending, l .3, l .4, p) (ap (λ (m : ℕ). reads.Right (record { table = t; map = m; revision = r; closing = at })) (a .map))
+      read-right h r q l spoken =
+          let d = list-got r q in
+          let p : length b - sizeOf (d .0) ≡ at = omega (arith, closing-size (from b at) (d .0) (d .1) (d .3), from-length b at) in
+          let same : l ≡ a .front .language = spoken ∙ sym (a .language) in
+          rw (behind-ending, d .3, d .4, p)
+          (ap₂ (λ (m : ℕ) (k : Language). reads.Right (record { table = t; map = m; language = k; revision = r; closing = at })) (a .map) same)
 
 -- ---- the whole section
 

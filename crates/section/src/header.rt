@@ -30,6 +30,12 @@ fn table_named(number: u8, medium: u8) -> Named
         }
         return Named::Nothing;
     }
+    if number == 0xC3 {
+        if medium == 6 {
+            return Named::Table(Table::Ntt);
+        }
+        return Named::Nothing;
+    }
     if number != 0xC4 {
         return Named::Nothing;
     }
@@ -48,7 +54,7 @@ fn header_whole(t: Table, b: &[u8]) -> Header
 {
     let high = fields::byte(b, 1);
     let protocol = fields::byte(b, 3);
-    if b.len() < fields::HEADER {
+    if b.len() < tables::header_size(t) {
         return Header::Refused(8);
     }
     if high / 64 != 0 {
@@ -64,8 +70,12 @@ fn header_whole(t: Table, b: &[u8]) -> Header
 fn medium_at(b: &[u8]) -> usize
     ensures { λ r. ⌜ r ≡ mediumAt (byte 0 (now (b .entry))) ⌝ }
 {
-    if fields::byte(b, 0) == 0xC2 {
+    let number = fields::byte(b, 0);
+    if number == 0xC2 {
         return 6;
+    }
+    if number == 0xC3 {
+        return 7;
     }
     4
 }

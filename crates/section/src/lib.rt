@@ -5,6 +5,7 @@ ghost use denote.Ref.{ptr};
 ghost use lib.ListN.{length};
 ghost use Rattle.rules.specs.Section.{isNumber, fitting, content, readSection, readAs, ask, partOf, partAt};
 ghost use Rattle.rules.specs.Said.{readSaid, askedSaid, sectionSaid, askSaid};
+ghost use Rattle.fields.specs.Outline.{headerSize};
 ghost use Rattle.fields.specs.Place.{further};
 ghost use Rattle.section.specs.Reads.{behind, answeredAs};
 use closing::Closed;
@@ -33,11 +34,14 @@ fn is_fitting(s: &[u8]) -> bool
     l <= 1021
 }
 
-// 0xC2 or 0xC4: else 4.
+// 0xC2 to 0xC4: else 4.
 fn is_table_number(number: u8) -> bool
     ensures { λ r. ⌜ r ≡ isNumber number ⌝ }
 {
     if number == 0xC2 {
+        return true;
+    }
+    if number == 0xC3 {
         return true;
     }
     number == 0xC4
@@ -45,7 +49,7 @@ fn is_table_number(number: u8) -> bool
 
 // Behind the header's zero bits: what is in front of the records, the records, then the closing list.
 fn structured(t: Table, b: &[u8]) -> Read
-    requires { ⌜ 7 ≤ length (now b) ⌝ }
+    requires { ⌜ headerSize t ≤ length (now b) ⌝ }
     ensures { λ r. ⌜ r ≡ answeredAs (now (b .entry)) (behind t (now (b .entry))) ⌝ }
 {
     let outlined = tables::outline_of(t, b);
@@ -62,6 +66,7 @@ fn structured(t: Table, b: &[u8]) -> Read
                         Closed::Revised(revision) => Read::Right(SectionHead {
                             table: t,
                             map: outline.map,
+                            language: tables::language_of(t, b),
                             revision,
                             closing: at,
                         }),

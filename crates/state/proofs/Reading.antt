@@ -11,7 +11,7 @@ use Rattle.rules.specs.declared.Read.the-variants as Read
 use Rattle.rules.proofs.{Taken.differ, LivePlaces.every-at}
 
 section-of : (s : State) (t : Table) (n : ℕ) (section : List ℕ) (head : SectionHead) (r : Reading) → Read.Right head ≡ readAs section r
-    → isSection s t n (head .table) (notOurs s (head .table) (head .map)) (head .revision) ≡ readsAs s t n r
+    → isSection s t n (head .table) (notOurs s (head .table) (head .map) (head .language)) (head .revision) ≡ readsAs s t n r
 unfolding readAs readsAs headOf otherMap
 section-of s t n section head (wrong k) e = let z : _≡_ {A = ℕ} 0 1 = cc in absurd (omega arith)
 section-of s t n section head (right c) e = let is : head ≡ headOf (withoutCrc section) c = cc in rw is
@@ -23,7 +23,7 @@ not-a-section s t n k section (right c) e = let z : _≡_ {A = ℕ} 0 1 = cc in 
 
 module _ (s : State) (store : List ℕ) (t : Table) (n : ℕ) (section : List ℕ) (there : section ≡ sectionAt store (liveAt s t n)) where
   pub place-right : (head : SectionHead) → Read.Right head ≡ readAs section (readSection section)
-      → isSection s t n (head .table) (notOurs s (head .table) (head .map)) (head .revision) ≡ placeReads s store t n
+      → isSection s t n (head .table) (notOurs s (head .table) (head .map) (head .language)) (head .revision) ≡ placeReads s store t n
   unfolding placeReads liveReading readFor
   place-right head e = rw (← there) (section-of s t n section head (readSection section) e)
 

@@ -6,10 +6,11 @@ ghost use mathlib.Core.Bool.{_&&_};
 ghost use Prim.Native.Nat.{_≤_};
 ghost use denote.Ref.{ptr};
 ghost use lib.Dec.{eqb};
-ghost use Rattle.rules.specs.Holding.{limitOf, indexOf, holdingOf, with, placeOf, storeSize, sectionAt, liveAt, gatheredAt, wellFormed, notOurs};
+ghost use Rattle.rules.specs.Holding.{limitOf, indexOf, holdingOf, with, placeOf, storeSize, sectionAt, liveAt, gatheredAt, wellFormed, sameLanguage, notOurs};
 ghost use Rattle.rules.specs.Tuning.{isSection, placeReads, tableReads};
 ghost use Rattle.fields.specs.Place.{placeOrEnd, further};
 use rules::Holding;
+use rules::Language;
 use rules::LiveVersion;
 use rules::Read;
 use rules::Revision;
@@ -18,7 +19,7 @@ use rules::State;
 use rules::Table;
 
 // How many tables there are, and the bytes of a place.
-const TABLES: usize = 4;
+const TABLES: usize = 5;
 
 const PLACE: usize = 1024;
 
@@ -46,7 +47,10 @@ pub fn well_formed(s: State) -> bool
     if !holding::is_formed(limit, s.tables.vcm) {
         return false;
     }
-    holding::is_formed(limit, s.tables.dcm)
+    if !holding::is_formed(limit, s.tables.dcm) {
+        return false;
+    }
+    holding::is_formed(limit, s.tables.ntt)
 }
 
 pub fn holding_of(s: State, t: Table) -> Holding
@@ -57,6 +61,7 @@ pub fn holding_of(s: State, t: Table) -> Holding
         Table::Mms => s.tables.mms,
         Table::Vcm => s.tables.vcm,
         Table::Dcm => s.tables.dcm,
+        Table::Ntt => s.tables.ntt,
     }
 }
 
@@ -78,20 +83,40 @@ pub fn with_holding(s: State, t: Table, h: Holding) -> State
         Table::Dcm => {
             tables.dcm = h;
         }
+        Table::Ntt => {
+            tables.ntt = h;
+        }
     }
     let settings = s.settings;
     State { tables, settings }
 }
 
-// 0xC4 has a map number, and it is another one than the state's.
-pub fn is_for_other(s: State, t: Table, map: u16) -> bool
-    ensures { λ x. ⌜ x ≡ notOurs s t map ⌝ }
+// The three bytes of a section's language are those that were given at the start.
+fn is_language(l: Language, ours: [u8; 3]) -> bool
+    ensures { λ x. ⌜ x ≡ sameLanguage l ours ⌝ }
+{
+    if l.first != ours[0] {
+        return false;
+    }
+    if l.second != ours[1] {
+        return false;
+    }
+    l.third == ours[2]
+}
+
+// 0xC4 has a map number, 0xC3 a language, and it is another one than the state's.
+pub fn is_for_other(s: State, t: Table, map: u16, language: Language) -> bool
+    ensures { λ x. ⌜ x ≡ notOurs s t map language ⌝ }
 {
     match t {
         Table::Cds => false,
         Table::Mms => false,
         Table::Vcm => map != s.settings.map,
         Table::Dcm => map != s.settings.map,
+        Table::Ntt => {
+            let ours = s.settings.language;
+            !is_language(language, ours)
+        }
     }
 }
 
@@ -105,6 +130,7 @@ pub fn index_of(t: Table) -> u8
         Table::Mms => 1,
         Table::Vcm => 2,
         Table::Dcm => 3,
+        Table::Ntt => 4,
     }
 }
 
@@ -166,15 +192,16 @@ fn is_revision_of(live: LiveVersion, n: u8, r: Revision) -> bool
     r.last == live.last
 }
 
-// Whether a section that reads right is section n of a live table: that table, map, version, number and last.
+// Whether a section that reads right is section n of a live table: that table, map (or language), version, number and last.
 fn is_section_of(s: State, t: Table, n: u8, head: SectionHead) -> bool
-    ensures { λ x. ⌜ x ≡ isSection s t n (head .table) (notOurs s (head .table) (head .map)) (head .revision) ⌝ }
+    ensures { λ x. ⌜ x ≡ isSection s t n (head .table) (notOurs s (head .table) (head .map) (head .language)) (head .revision) ⌝ }
 {
     let table = head.table;
+    let language = head.language;
     if index_of(table) != index_of(t) {
         return false;
     }
-    if is_for_other(s, table, head.map) {
+    if is_for_other(s, table, head.map, language) {
         return false;
     }
     let h = holding_of(s, t);

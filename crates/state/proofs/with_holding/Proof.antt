@@ -11,8 +11,9 @@ returns c =
     ⊎-elim (λ w. rw (w .2) (simp (w .1 .given .1)))
     (⊎-elim (λ w. rw (w .2) (simp (w .1 .given .1)))
     (⊎-elim (λ w. rw (w .2) (simp (w .1 .given .1)))
-    (λ w. rw (w .2) (simp (w .1 .given .1)))))
+    (⊎-elim (λ w. rw (w .2) (simp (w .1 .given .1)))
+    (λ w. rw (w .2) (simp (w .1 .given .1))))))
     (c .before .match .came)
 
 pub with-holding-spec : {M : Type 1} → statement M
-with-holding-spec = tie.close (tie.spec (λ c. search needs) (λ c. search needs) (λ c. search needs) (λ c. search needs) returns)
+with-holding-spec = tie.close (tie.spec (λ c. search needs) (λ c. search needs) (λ c. search needs) (λ c. search needs) (λ c. search needs) returns)

@@ -17,8 +17,9 @@ module _ (b : List ℕ) (r : Skip) (included count first at : ℕ) where
 
 pub past-records-spec : {M : Type 1} → statement M
 past-records-spec = tie.close (tie.spec (λ c. search needs) (λ c κs. search needs) (λ c. search needs) (λ c κs. search needs) (λ c. search needs)
-    (λ c κs. search needs) (λ c. search needs) (λ c κs. search needs)
+    (λ c κs. search needs) (λ c. search needs) (λ c κs. search needs) (λ c. search needs) (λ c κs. search needs)
     (λ c. as-table _ _ _ _ _ _ table.Cds (c .before .enum-told .given .1) (c .past-carriers .ensures))
     (λ c. as-table _ _ _ _ _ _ table.Mms (c .before .enum-told2 .given .1) (c .past-modes .ensures))
     (λ c. as-table _ _ _ _ _ _ table.Vcm (c .before .enum-told3 .given .1) (c .past-channels .ensures))
-    (λ c. as-table _ _ _ _ _ _ table.Dcm (c .before .enum-told4 .given .1) (c .past-ranges .ensures)))
+    (λ c. as-table _ _ _ _ _ _ table.Dcm (c .before .enum-told4 .given .1) (c .past-ranges .ensures))
+    (λ c. as-table _ _ _ _ _ _ table.Ntt (c .before .enum-told5 .given .1) (c .past-names .ensures)))

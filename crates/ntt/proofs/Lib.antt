@@ -1,0 +1,4 @@
+pub mod Texts
+pub mod Onward
+pub mod Head
+pub mod Determined
