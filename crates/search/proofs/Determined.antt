@@ -12,11 +12,13 @@ use ghost.Atoms.{Atoms}
 use prog.Memory.{Memory}
 use prog.Routine.{Routine}
 use prog.Wp.{Heap}
-use Rattle.rules.proofs.Determined.{Determined, determined-by, determined-once, both-say}
+use Rattle.rules.proofs.Determined.{Determined, determined-by, determined-once, both-say, first-says}
 use Rattle.search.proofs.carrier_entry
 use Rattle.search.proofs.channel_entry
 use Rattle.search.proofs.mode_entry
 use Rattle.search.proofs.range_entry
+use Rattle.search.proofs.name_entry
+use Rattle.search.proofs.label_at
 use Rattle.search.proofs.carrier_at
 use Rattle.search.proofs.mode_at
 use Rattle.search.proofs.channel_at
@@ -60,3 +62,9 @@ module _ {M : Type 1} (𝓤 : URA M) (H : Heap 𝓤) (A : Atoms 𝓤) (mem : Mem
   pub list_records-determined : Determined 𝓤 {T = list_records.ended} (list_records.clauses 𝓤 H A mem run) (λ κs r e. now (e .1 .1 .1 .0))
   list_records-determined = determined-once 𝓤 {T = list_records.ended} (list_records.clauses 𝓤 H A mem run) _ _ (λ κs a g r e. both-say 𝓤 (id⊢ 𝓤 _) (id⊢ 𝓤 _))
       (λ κs a g r r′ e e′ s t. same-all _ _ (s .1 ∙ sym (t .1)) (λ n k. s .0 .is n k ∙ sym (t .0 .is n (omega (arith, k, s .1, t .1)))))
+
+  pub name_entry-determined : Determined 𝓤 {T = name_entry.ended} (name_entry.clauses 𝓤 H A mem run) (λ κs r e. r)
+  name_entry-determined = determined-by 𝓤 {T = name_entry.ended} (name_entry.clauses 𝓤 H A mem run) _ _ (λ κs a g r e. id⊢ 𝓤 _)
+
+  pub label_at-determined : Determined 𝓤 {T = label_at.ended} (label_at.clauses 𝓤 H A mem run) (λ κs r e. r)
+  label_at-determined = determined-by 𝓤 {T = label_at.ended} (label_at.clauses 𝓤 H A mem run) _ _ (λ κs a g r e. first-says 𝓤 (id⊢ 𝓤 _) (id⊢ 𝓤 _))

@@ -5,21 +5,24 @@ use native.Mathlib.{Omega.arith, Numerals.add-one, Nat.sub-zero}
 use mathlib.Core.Path.{_≡_, refl, sym, ap, ap₂, subst, _∙_}
 use mathlib.Core.Bool.{Bool, true, false, cond}
 use mathlib.Core.{List.List, List._++_, Option.Option, Option.some}
-use lib.ListN.{length, take, drop}
+use lib.ListN.{length, take, drop, getD}
+use lib.Seq.{getD-take}
 use lib.Dec.{eqb}
 use Rattle.rules.specs.{Bytes.refused, Bytes.got, Bytes.from, Descriptors.counted, Section.withoutCrc, Holding.sectionAt, Holding.liveAt}
 use Rattle.rules.specs.{Search.first, Search.sections, declared.Table.Table, declared.State.State}
 use Rattle.rules.specs.Layout.{extent, Layout, Numbered, numbered, entry, after, records}
-use Rattle.rules.specs.Tables.{cds, mms, vcm, dcm, channelOf}
+use Rattle.rules.specs.Tables.{cds, mms, vcm, dcm, ntt, channelOf, nameOf}
+use Rattle.rules.specs.{Bytes.byte, Label.isName}
 use Rattle.rules.specs.Tuning.{covers, isCarrier, isMode, isChannel, isRange, liveCount}
-use Rattle.rules.specs.declared.Table.the-variants.{Cds, Mms, Vcm, Dcm}
+use Rattle.rules.specs.declared.Table.the-variants.{Cds, Mms, Vcm, Dcm, Ntt}
 use Rattle.rules.proofs.Search.{sections-more, sections-none, More, more}
 use Rattle.rules.proofs.Places.{from-from, from-length}
 use Rattle.fields.specs.{Outline.layoutOf, Outline.outlineOf, declared.Outline.Outline}
 use Rattle.fields.proofs.Outlines.{laid}
 use Rattle.fields.proofs.Laws.{part-whole}
-use Rattle.search.specs.Entries.{Live, RecordOf, testOf, spanOf, outlineIn, Standing, ofGot, standing, standingIn, entryNumber, entryOf}
-use Rattle.search.proofs.{Marks.covers-one, Sections.section-short, Sections.low-live, Sections.live-walk}
+use Rattle.rules.specs.Standing.{Standing, ofGot, standing, standingIn, liveStanding}
+use Rattle.search.specs.Entries.{Live, RecordOf, testOf, spanOf, outlineIn, entryNumber, entryBy, entryOf}
+use Rattle.search.proofs.{Marks.covers-one, Marks.covers-none, Sections.section-short, Sections.low-live, Sections.live-walk}
 
 -- ---- by the table: the numbers that a record goes by
 
@@ -29,11 +32,12 @@ record Spans (t : Table) (included index : ℕ) (bs : List ℕ) : Type 0 where
       ≡ layoutOf t included .takes (layoutOf t included .block .look (take (extent (layoutOf t included .block) bs) bs))
 
 spans : (t : Table) (included index : ℕ) (bs : List ℕ) → Spans t included index bs
-unfolding isCarrier isMode isChannel isRange spanOf numbered cds mms vcm dcm
+unfolding isCarrier isMode isChannel isRange spanOf numbered cds mms vcm dcm ntt
 spans Cds included index bs = record { goes-by = λ x. refl; counts = refl }
 spans Mms included index bs = record { goes-by = λ x. sym (covers-one index x); counts = refl }
 spans Vcm included index bs = record { goes-by = λ x. sym (covers-one _ x); counts = refl }
 spans Dcm included index bs = record { goes-by = λ x. refl; counts = refl }
+spans Ntt included index bs = record { goes-by = λ x. sym (covers-none x); counts = refl }
 
 -- a channel record goes by the number that it carries, and takes no index
 module _ (index x : ℕ) (b : List ℕ) (at : ℕ) where
@@ -45,6 +49,21 @@ module _ (index x : ℕ) (b : List ℕ) (at : ℕ) where
   pub channel-takes : 0 ≡ spanOf Vcm index (from b at) .takes
   unfolding spanOf
   channel-takes = refl
+
+-- a name goes by its flag and its number, which stand in front of it, and takes no index
+module _ (index : ℕ) (b : List ℕ) (at : ℕ) where
+  pub name-goes : (application number : ℕ) → isName application number (numbered ntt index (from b at))
+      ≡ isName application number (record { index = 0; what = nameOf (take 4 (from b at)) })
+  unfolding isName numbered ntt nameOf byte
+  name-goes application number =
+      let n = 4 + byte 3 (take 4 (from b at)) in
+      let same : (j : ℕ) → j < 4 → getD (take n (from b at)) j 0 ≡ getD (take 4 (from b at)) j 0 =
+      λ j h. getD-take n (from b at) j 0 (omega arith) ∙ sym (getD-take 4 (from b at) j 0 h) in
+      rw (same 0 (omega arith), same 1 (omega arith), same 2 (omega arith)) refl
+
+  pub name-takes : 0 ≡ spanOf Ntt index (from b at) .takes
+  unfolding spanOf
+  name-takes = refl
 
 -- ---- the two loops
 
@@ -63,9 +82,9 @@ unfolding first standing ofGot after numbered entryNumber
 standing-step l test m index end bs behind tail place e p =
     rw (e, p) (number-of (test (numbered l index bs)) (record { row = numbered l index bs; at = place }) _)
 
-module _ (s : State) (store : List ℕ) (t : Table) (x : ℕ) where
+module _ (s : State) (store : List ℕ) (t : Table) (test : Numbered (RecordOf t) → Bool) where
   abbrev goes : Standing (RecordOf t) → Bool
-  goes y = testOf t x (y .row)
+  goes y = test (y .row)
 
   abbrev onFrom : ℕ → List (Standing (RecordOf t))
   onFrom i = sections (standingIn s store t) (liveCount s t - i) i
@@ -83,20 +102,14 @@ module _ (s : State) (store : List ℕ) (t : Table) (x : ℕ) where
     pub reads : records (layoutOf t included) left index (from b at) ≡ got rs rest
     pub is : entryNumber (first goes (standing (layoutOf t included) left index (start + length b) (from b at) ++ onFrom (i + 1))) ≡ later
 
-  pub set-out : Outside 0 (entryOf s store t x)
-  unfolding entryOf
+  pub set-out : Outside 0 (entryBy s store t test)
+  unfolding entryBy liveStanding
   set-out = record { is = rw sub-zero }
 
   -- behind the last section there is no match
   pub none-left : {i later : ℕ} → Outside i later → liveCount s t ≤ i → 0 ≡ later
   unfolding first entryNumber
   none-left {i} o h = rw (sections-none (standingIn s store t) (liveCount s t) i h) at (o .is)
-
-  standing-here : (i : ℕ) (b : List ℕ) (o : Outline) (start : ℕ) → b ≡ withoutCrc (sectionAt store (liveAt s t i)) → o ≡ outlineIn (outlineOf t b)
-      → start ≡ liveAt s t i
-      → standing (layoutOf t (o .included)) (o .count) (o .first) (start + length b) (from b (o .at)) ≡ standingIn s store t i
-  unfolding standingIn
-  standing-here i b o start p q e = rw (q, p, e)
 
   -- into section i, whose records stand at its outline
   pub go-in : {i later : ℕ} → Live s store t → Outside i later → i < liveCount s t → (b : List ℕ) (o : Outline) (start : ℕ)
@@ -110,9 +123,13 @@ module _ (s : State) (store : List ℕ) (t : Table) (x : ℕ) where
         rest = k .0;
         reads = k .1;
         is =
-            ap (λ (l : List (Standing (RecordOf t))). entryNumber (first goes (l ++ onFrom (i + 1)))) (standing-here i b o start p q e)
+            ap (λ (l : List (Standing (RecordOf t))). entryNumber (first goes (l ++ onFrom (i + 1)))) (here (k .2))
             ∙ rw (← sections-more (standingIn s store t) (liveCount s t) i h) (out .is);
       }
+    where
+      here : standingIn s store t i ≡ standing (layoutOf t (o .included)) (o .count) (o .first) (liveAt s t i + length b) (from b (o .at))
+          → standing (layoutOf t (o .included)) (o .count) (o .first) (start + length b) (from b (o .at)) ≡ standingIn s store t i
+      here k = rw e (sym k)
 
   module _ {included start i left index : ℕ} {b : List ℕ} {at later : ℕ} (w : Inside included start i left index b at later) where
     -- and out of it, where no record is left
@@ -149,11 +166,11 @@ module _ (s : State) (store : List ℕ) (t : Table) (x : ℕ) where
         omega arith
 
     -- where it is passed m records are left, the next of them with its index and at its place: whatever is the entry from there on, it is
-    -- the one that is looked for unless the record itself matches
+    -- the one that is looked for unless the record itself passes the test
     pub onward : {m next place takes : ℕ} → left ≡ m + 1 → next ≡ index + takes → takes ≡ spanOf t index (from b at) .takes
         → counted (layoutOf t included .described) (from b (at + extent (layoutOf t included .block) (from b at))) ≡ got tt (from b place)
         → (on : ℕ) × Inside included start i m next b place on
-        × (later ≡ cond (covers (spanOf t index (from b at) .first) (spanOf t index (from b at) .count) x) (1 + (start + at) + index * 2 ^ 32) on)
+        × (later ≡ cond (test (numbered (layoutOf t included) index (from b at))) (1 + (start + at) + index * 2 ^ 32) on)
     onward {m} {next} {place} {takes} f g k c =
         let l = layoutOf t included in
         let o = one m f in
@@ -165,12 +182,9 @@ module _ (s : State) (store : List ℕ) (t : Table) (x : ℕ) where
         ≡ later = rw (← (f ∙ add-one m)) (w .is) in (
           _,
           record { low = w .low; rs = o .others; rest = w .rest; reads = rw (counts, ← here) (o .more); is = refl },
-          sym is ∙ standing-step l (testOf t x) m index (start + length b) (from b at) (o .behind) (onFrom (i + 1)) (start + at) (o .one) stands
-              ∙ ap₂ (λ (n : ℕ) (rest : List ℕ). cond (testOf t x (numbered l index (from b at))) (1 + (start + at) + index * 2 ^ 32)
-              (entryNumber (first goes (standing l m n (start + length b) rest ++ onFrom (i + 1))))) (sym counts) here
-              ∙ ap (λ (c : Bool). cond c (1 + (start + at) + index * 2 ^ 32)
-              (entryNumber (first goes (standing l m next (start + length b) (from b place) ++ onFrom (i + 1)))))
-              (spans t included index (from b at) .goes-by x),
+          sym is ∙ standing-step l test m index (start + length b) (from b at) (o .behind) (onFrom (i + 1)) (start + at) (o .one) stands
+              ∙ ap₂ (λ (n : ℕ) (rest : List ℕ). cond (test (numbered l index (from b at))) (1 + (start + at) + index * 2 ^ 32)
+              (entryNumber (first goes (standing l m n (start + length b) rest ++ onFrom (i + 1))))) (sym counts) here,
         )
       where
         at-behind : {rest : List ℕ}
@@ -178,17 +192,48 @@ module _ (s : State) (store : List ℕ) (t : Table) (x : ℕ) where
             → counted (layoutOf t included .described) (from (from b at) (extent (layoutOf t included .block) (from b at))) ≡ got tt rest → rest ≡ from b place
         at-behind c d = let e = from-from b at (extent (layoutOf t included .block) (from b at)) in cc
 
-    -- if it matches its entry is the one
-    pub match : (place : ℕ) → 0 < left → covers (spanOf t index (from b at) .first) (spanOf t index (from b at) .count) x ≡ true
+    -- if it passes its entry is the one
+    pub match-by : (place : ℕ) → 0 < left → test (numbered (layoutOf t included) index (from b at)) ≡ true
         → counted (layoutOf t included .described) (from b (at + extent (layoutOf t included .block) (from b at))) ≡ got tt (from b place)
         → 1 + (start + at) + index * 2 ^ 32 ≡ later
-    match place h c p = let o = onward {m = left - 1} {place = place} (omega arith) refl refl p in sym (rw c at (o .2))
+    match-by place h c p = let o = onward {m = left - 1} {place = place} (omega arith) refl refl p in sym (rw c at (o .2))
 
     -- and if it does not it is that of those behind it
-    pub pass : {m next place takes : ℕ} → left ≡ m + 1 → next ≡ index + takes → takes ≡ spanOf t index (from b at) .takes
+    pub pass-by : {m next place takes : ℕ} → left ≡ m + 1 → next ≡ index + takes → takes ≡ spanOf t index (from b at) .takes
         → counted (layoutOf t included .described) (from b (at + extent (layoutOf t included .block) (from b at))) ≡ got tt (from b place)
-        → covers (spanOf t index (from b at) .first) (spanOf t index (from b at) .count) x ≡ false → Inside included start i m next b place later
-    pass {m} {next} {place} f g k p c =
+        → test (numbered (layoutOf t included) index (from b at)) ≡ false → Inside included start i m next b place later
+    pass-by {m} {next} {place} f g k p c =
         let o = onward f g k p in
         let q : later ≡ o .0 = rw c at (o .2) in
         subst (λ (y : ℕ). Inside included start i m next b place y) (sym q) (o .1)
+
+-- ---- of records that go by a number: those of the span that covers it
+
+pub set-off : (s : State) (store : List ℕ) (t : Table) (x : ℕ) → Outside s store t (testOf t x) 0 (entryOf s store t x)
+unfolding entryOf
+set-off s store t x = set-out s store t (testOf t x)
+
+module _ (s : State) (store : List ℕ) (t : Table) (x : ℕ) {included start i left index : ℕ} {b : List ℕ} {at later : ℕ}
+    (w : Inside s store t (testOf t x) included start i left index b at later) where
+  abbrev covered : Bool
+  covered = covers (spanOf t index (from b at) .first) (spanOf t index (from b at) .count) x
+
+  goes-so : testOf t x (numbered (layoutOf t included) index (from b at)) ≡ covered
+  goes-so = spans t included index (from b at) .goes-by x
+
+  pub onward-in : {m next place takes : ℕ} → left ≡ m + 1 → next ≡ index + takes → takes ≡ spanOf t index (from b at) .takes
+      → counted (layoutOf t included .described) (from b (at + extent (layoutOf t included .block) (from b at))) ≡ got tt (from b place)
+      → (on : ℕ) × Inside s store t (testOf t x) included start i m next b place on × (later ≡ cond covered (1 + (start + at) + index * 2 ^ 32) on)
+  onward-in f g k c =
+      let o = onward s store t (testOf t x) w f g k c in
+      (o .0, o .1, o .2 ∙ ap (λ (q : Bool). cond q (1 + (start + at) + index * 2 ^ 32) (o .0)) goes-so)
+
+  pub match : (place : ℕ) → 0 < left → covered ≡ true
+      → counted (layoutOf t included .described) (from b (at + extent (layoutOf t included .block) (from b at))) ≡ got tt (from b place)
+      → 1 + (start + at) + index * 2 ^ 32 ≡ later
+  match place h c p = match-by s store t (testOf t x) w place h (goes-so ∙ c) p
+
+  pub pass : {m next place takes : ℕ} → left ≡ m + 1 → next ≡ index + takes → takes ≡ spanOf t index (from b at) .takes
+      → counted (layoutOf t included .described) (from b (at + extent (layoutOf t included .block) (from b at))) ≡ got tt (from b place)
+      → covered ≡ false → Inside s store t (testOf t x) included start i m next b place later
+  pass f g k p c = pass-by s store t (testOf t x) w f g k p (goes-so ∙ c)

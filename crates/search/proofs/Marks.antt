@@ -25,6 +25,10 @@ module _ (from n x : ℕ) where
   unfolding covers
   covers-high g h = simp (le-leb from x g, le-ltb x (from + n) h)
 
+-- no number is none
+pub covers-none : (x : ℕ) → covers 0 0 x ≡ false
+covers-none x = covers-high 0 0 x (omega arith) (omega arith)
+
 -- one number is itself alone
 pub covers-one : (i x : ℕ) → covers i 1 x ≡ eqb i x
 covers-one i x = go (ltb x i) refl (ltb i x) refl

@@ -4,17 +4,22 @@ use native.Mathlib.Omega.{arith}
 use mathlib.Core.Path.{_≡_, refl, sym, ap, subst, _∙_}
 use mathlib.Core.Bool.{Bool, true, false, cond}
 use mathlib.Core.List.{List, [], _∷_, _++_}
-use mathlib.Core.Option.{none, some}
-use lib.ListN.{length, take, drop, length-take}
-use lib.Seq.{drop-drop}
+use mathlib.Core.Option.{Option, none, some}
+use lib.ListN.{length, take}
 use Rattle.rules.specs.Gathering as Gathering
-use Rattle.rules.specs.{Bytes.got, Bytes.from, Section.lengthOf, Section.withoutCrc, Holding.sectionAt, Holding.liveAt, Search.first, Search.sections}
+use Rattle.rules.specs.{Bytes.got, Bytes.from, Section.withoutCrc, Holding.sectionAt, Holding.liveAt, Search.first, Search.sections}
 use Rattle.rules.specs.{Tuning.liveCount, Tuning.liveSection, Tuning.liveRecords, declared.Table.Table, declared.State.State}
 use Rattle.rules.specs.Layout.{Numbered, numbered, extent, after, records}
-use Rattle.rules.proofs.{Asking.part-front, Places.from-length, Places.entry-place, Search.more}
+use Rattle.rules.specs.{Bytes.byte, Tables.Name, Tables.ntt, Label.labelOf, Labelling.namesIn}
+use Rattle.rules.specs.declared.Table.the-variants.{Ntt}
+use Rattle.rules.specs.declared.Labelled.the-variants.{Named}
+use Rattle.rules.proofs.{Places.from-length, Places.entry-place, Search.more}
+use Rattle.rules.proofs.Standing.{section-part, StandsAt, FirstOf, nowhere, there, first-of, names-stand, name-long}
 use Rattle.fields.specs.Outline.{layoutOf}
 use Rattle.fields.proofs.Outlines.{laid}
-use Rattle.search.specs.Entries.{Live, RecordOf, recordsOf, testOf, Standing, ofGot, standing, standingIn, entryNumber, entryOf, recordNamed}
+use Rattle.rules.specs.Standing.{Standing, ofGot, standing, standingIn, liveStanding}
+use Rattle.search.specs.Entries.{Live, RecordOf, recordsOf, testOf, entryNumber, entryBy, entryOf, recordNamed}
+use Rattle.search.specs.Found.{labelNamed}
 use Rattle.search.proofs.Sections.{section-short, low-live, live-walk}
 
 -- ---- the record of an entry
@@ -32,21 +37,6 @@ pub an-entry : (t : Table) (store : List ℕ) (entry : ℕ) → (entry ≡ 0 →
 unfolding recordNamed
 an-entry t store zero h = absurd (h refl)
 an-entry t store (suc n) h = let e : suc n - 1 ≡ n = omega arith in rw e
-
--- bytes at a place of a live section stand in the store, that much behind the section's place
-module _ (store : List ℕ) (start : ℕ) where
-  section-part : (at n : ℕ) → at + n ≤ length (withoutCrc (sectionAt store start))
-      → take n (from (withoutCrc (sectionAt store start)) at) ≡ take n (from store (start + at))
-  unfolding withoutCrc Gathering.sectionAt from
-  section-part at n h =
-      let place : List ℕ = take 1024 (drop start store) in
-      let section : List ℕ = take (3 + lengthOf place) place in
-      let inner : at + n ≤ length section = omega (arith, length-take (length section - 4) section) in
-      let whole : at + n ≤ length place = omega (arith, length-take (3 + lengthOf place) place) in
-      part-front (length section - 4) section at n h
-      ∙ part-front (3 + lengthOf place) place at n inner
-      ∙ part-front 1024 (drop start store) at n whole
-      ∙ ap (take n) (drop-drop at start store)
 
 module _ (t : Table) (store : List ℕ) where
   abbrev Names : (at index : ℕ) → Numbered (RecordOf t) → Type 0
@@ -77,26 +67,37 @@ module _ (t : Table) (store : List ℕ) where
   Alike [] [] = Unit
   Alike [] (r ∷ rs) = ⊥
   Alike (y ∷ ys) [] = ⊥
-  Alike (y ∷ ys) (r ∷ rs) = Names (y .at) (y .row .index) r × (y .row ≡ r) × Alike ys rs
+  Alike (y ∷ ys) (r ∷ rs) = Names (y .at) (y .row .index) r × (y .at < 2 ^ 32) × (y .row ≡ r) × Alike ys rs
 
   alike-append : (ys : List (Standing (RecordOf t))) (rs : List (Numbered (RecordOf t))) (zs : List (Standing (RecordOf t)))
       (qs : List (Numbered (RecordOf t)))
       → Alike ys rs → Alike zs qs → Alike (ys ++ zs) (rs ++ qs)
   alike-append [] [] zs qs a b = b
-  alike-append (y ∷ ys) (r ∷ rs) zs qs a b = (a .0, a .1, alike-append ys rs zs qs (a .2) b)
+  alike-append (y ∷ ys) (r ∷ rs) zs qs a b = (a .0, a .1, a .2, alike-append ys rs zs qs (a .3) b)
 
   -- the entry of the first match names the first match
-  alike-first : (x : ℕ) (ys : List (Standing (RecordOf t))) (rs : List (Numbered (RecordOf t))) → Alike ys rs
-      → recordNamed t store (entryNumber (first (λ y. testOf t x (y .row)) ys)) ≡ first (testOf t x) rs
+  alike-first : (test : Numbered (RecordOf t) → Bool) (ys : List (Standing (RecordOf t))) (rs : List (Numbered (RecordOf t))) → Alike ys rs
+      → recordNamed t store (entryNumber (first (λ y. test (y .row)) ys)) ≡ first test rs
   unfolding first entryNumber
-  alike-first x [] [] a = no-entry t store 0 refl
-  alike-first x (y ∷ ys) (r ∷ rs) (n, e, a) =
-      go (testOf t x (y .row)) (alike-first x ys rs a) ∙ ap (λ (z : Numbered (RecordOf t)). cond (testOf t x z) (some r) (first (testOf t x) rs)) e
+  alike-first test [] [] a = no-entry t store 0 refl
+  alike-first test (y ∷ ys) (r ∷ rs) (n, low, e, a) =
+      go (test (y .row)) (alike-first test ys rs a) ∙ ap (λ (z : Numbered (RecordOf t)). cond (test z) (some r) (first test rs)) e
     where
-      go : (b : Bool) → recordNamed t store (entryNumber (first (λ y. testOf t x (y .row)) ys)) ≡ first (testOf t x) rs
-          → recordNamed t store (entryNumber (cond b (some y) (first (λ y. testOf t x (y .row)) ys))) ≡ cond b (some r) (first (testOf t x) rs)
+      go : (b : Bool) → recordNamed t store (entryNumber (first (λ y. test (y .row)) ys)) ≡ first test rs
+          → recordNamed t store (entryNumber (cond b (some y) (first (λ y. test (y .row)) ys))) ≡ cond b (some r) (first test rs)
       go true q = n
       go false q = q
+
+  -- and it stands at a number of 32 bits
+  low-first : (test : Numbered (RecordOf t) → Bool) (ys : List (Standing (RecordOf t))) (rs : List (Numbered (RecordOf t))) → Alike ys rs
+      → (y : Standing (RecordOf t)) → first (λ z. test (z .row)) ys ≡ some y → y .at < 2 ^ 32
+  unfolding first
+  low-first test [] [] a y e = let z : _≡_ {A = ℕ} 0 1 = cc in absurd (omega arith)
+  low-first test (x ∷ ys) (r ∷ rs) (n, low, q, a) y e = go (test (x .row)) e (low-first test ys rs a y)
+    where
+      go : (b : Bool) → cond b (some x) (first (λ z. test (z .row)) ys) ≡ some y → (first (λ z. test (z .row)) ys ≡ some y → y .at < 2 ^ 32) → y .at < 2 ^ 32
+      go true p others = let is : x ≡ y = cc in rw (← is) low
+      go false p others = others p
 
   -- the records of a live section
   alike-standing : (included start : ℕ) (b : List ℕ) → b ≡ withoutCrc (sectionAt store start) → start < 2 ^ 30
@@ -114,16 +115,16 @@ module _ (t : Table) (store : List ℕ) where
       let next = index + l .takes (l .block .look (take (extent (l .block) (from b at)) (from b at))) in
       let others = alike-standing included start b e low n next (place .0) (o .others) rest (rw (← place .1) (o .more)) in
       let short = section-short store start in
-      rw (o .is, o .one, here, place .1) (names-it included index start b at e fits (omega (arith, short, ap length e, inside, low)), refl, others)
+      let small : start + at < 2 ^ 32 = omega (arith, short, ap length e, inside, low) in
+      rw (o .is, o .one, here, place .1) (names-it included index start b at e fits small, small, refl, others)
 
 -- ---- the entry of a number
 
 module _ (s : State) (store : List ℕ) (t : Table) (live : Live s store t) where
   alike-section : (i : ℕ) → i < liveCount s t → Alike t store (standingIn s store t i) (liveSection (recordsOf t) s store t i)
-  unfolding standingIn
   alike-section i h =
       let k = live-walk s store t live i h _ refl _ refl in
-      alike-standing t store _ (liveAt s t i) _ refl (low-live s store t live i h) _ _ _ _ (k .0) (k .1)
+      rw (k .2) (alike-standing t store _ (liveAt s t i) _ refl (low-live s store t live i h) _ _ _ _ (k .0) (k .1))
 
   alike-sections : (m i : ℕ) → liveCount s t ≡ m + i → Alike t store (sections (standingIn s store t) m i) (sections (liveSection (recordsOf t) s store t) m i)
   unfolding sections
@@ -134,5 +135,39 @@ module _ (s : State) (store : List ℕ) (t : Table) (live : Live s store t) wher
       (alike-section i (omega (arith, e))) (alike-sections m (i + 1) (omega (arith, e)))
 
   pub entry-names : (x : ℕ) → recordNamed t store (entryOf s store t x) ≡ first (testOf t x) (liveRecords (recordsOf t) s store t)
-  unfolding entryOf liveRecords
-  entry-names x = alike-first t store x _ _ (alike-sections (liveCount s t) 0 (omega arith))
+  unfolding entryOf entryBy liveStanding liveRecords
+  entry-names x = alike-first t store (testOf t x) _ _ (alike-sections (liveCount s t) 0 (omega arith))
+
+-- ---- the label that an entry is
+
+no-label : (store : List ℕ) (o : Option (Standing Name)) → o ≡ none → labelNamed store (entryNumber o) ≡ labelOf o
+unfolding labelNamed entryNumber labelOf
+no-label store o e = rw e refl
+
+pub a-label : (store : List ℕ) (entry : ℕ) → (entry ≡ 0 → ⊥)
+    → labelNamed store entry ≡ Named ((entry - 1) % 2 ^ 32 + 4) (byte ((entry - 1) % 2 ^ 32 + 3) store)
+unfolding labelNamed
+a-label store zero h = absurd (h refl)
+a-label store (suc n) h = let e : suc n - 1 ≡ n = omega arith in rw e
+
+module _ (s : State) (store : List ℕ) (live : Live s store Ntt) (test : Numbered Name → Bool) where
+  low-name : (y : Standing Name) → first (λ z. test (z .row)) (liveStanding s store Ntt) ≡ some y → y .at < 2 ^ 32
+  unfolding liveStanding
+  low-name y e = low-first Ntt store test _ _ (alike-sections s store Ntt live (liveCount s Ntt) 0 (omega arith)) y e
+
+  named-at : (y : Standing Name) → StandsAt (ntt .block) store y → y .at < 2 ^ 32 → labelNamed store (entryNumber (some y)) ≡ labelOf (some y)
+  unfolding entryNumber labelOf ntt
+  named-at y a low =
+      let entry = 1 + y .at + y .row .index * 2 ^ 32 in
+      let at : (entry - 1) % 2 ^ 32 ≡ y .at = omega (arith, low) in
+      a-label store entry (λ z. omega arith) ∙ rw (at, ← name-long store y a) refl
+
+  pub label-found : labelNamed store (entryBy s store Ntt test) ≡ labelOf (first (λ x. test (x .row)) (liveStanding s store Ntt))
+  unfolding entryBy
+  label-found = go (first-of (ntt .block) store test (liveStanding s store Ntt) _ (names-stand s store (live .reads)))
+    where
+      go : FirstOf (ntt .block) store test (liveStanding s store Ntt) (liveRecords namesIn s store Ntt)
+          → labelNamed store (entryNumber (first (λ x. test (x .row)) (liveStanding s store Ntt)))
+          ≡ labelOf (first (λ x. test (x .row)) (liveStanding s store Ntt))
+      go (nowhere p q) = no-label store _ p
+      go (there y p q a) = rw p (named-at y a (low-name y p))

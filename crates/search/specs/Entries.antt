@@ -1,16 +1,16 @@
 -- The first record of a live table that goes by a number, and its entry: a number that says where in the store the record stands, and with
 -- which index.
-use Prim.Native.Nat.{ℕ, zero, suc, _+_, _-_, _*_, _/_, _%_, _^_}
-use mathlib.Core.{Path._≡_, Bool.Bool, Bool.true, List.List, List.[], List._∷_, Option.Option, Option.none, Option.some}
-use lib.ListN.{length, take}
-use Rattle.rules.specs.Bytes.{Got, refused, got, from}
-use Rattle.rules.specs.Layout.{extent, Layout, Numbered, entry, after}
+use Prim.Native.Nat.{ℕ, zero, suc, _+_, _*_, _/_, _%_, _^_}
+use mathlib.Core.{Path._≡_, Bool.Bool, Bool.true, Bool.false, List.List, Option.Option, Option.none, Option.some}
+use lib.ListN.{take}
+use Rattle.rules.specs.Bytes.{from}
+use Rattle.rules.specs.Layout.{extent, Numbered}
 use Rattle.rules.specs.Tables.{carriersOf, cds, channelOf, vcm, rangeOf, dcm}
-use Rattle.rules.specs.{Form.form, Section.Structure, Section.withoutCrc, Search.first, Search.sections, declared.Table.Table, declared.State.State}
-use Rattle.rules.specs.Holding.{limitOf, sectionAt, holdingOf, liveAt, holdingFormed}
-use Rattle.rules.specs.Tuning.{liveCount, tableReads, isCarrier, isMode, isChannel, isRange}
-use Rattle.rules.specs.declared.Table.the-variants.{Cds, Mms, Vcm, Dcm}
-use Rattle.fields.specs.{Outline.layoutOf, Outline.outlineOf, declared.Outline.Outline, declared.Outlined.Outlined}
+use Rattle.rules.specs.{Form.form, Section.Structure, Search.first, Standing.Standing, Standing.liveStanding, declared.Table.Table, declared.State.State}
+use Rattle.rules.specs.Holding.{limitOf, holdingOf, holdingFormed}
+use Rattle.rules.specs.Tuning.{tableReads, isCarrier, isMode, isChannel, isRange}
+use Rattle.rules.specs.declared.Table.the-variants.{Cds, Mms, Vcm, Dcm, Ntt}
+use Rattle.fields.specs.{Outline.layoutOf, declared.Outline.Outline, declared.Outlined.Outlined}
 use Rattle.fields.specs.declared.Outlined.the-variants.{Refused, Records}
 use Rattle.search.specs.declared.Span.{Span}
 
@@ -27,12 +27,13 @@ recordsOf t x = form t .rowsIn (x .lists)
 
 -- ---- the numbers that a record goes by
 
--- whether it goes by a number
+-- whether it goes by a number; a name goes by two, its flag and its number (`isName`)
 abbrev pub testOf : (t : Table) → (number : ℕ) → Numbered (RecordOf t) → Bool
 testOf Cds = isCarrier
 testOf Mms = isMode
 testOf Vcm = isChannel
 testOf Dcm = isRange
+testOf Ntt = λ number e. false
 
 -- the numbers that the record at the front of the bytes goes by, and how many indices it takes
 unfoldable pub spanOf : Table → (index : ℕ) → List ℕ → Span
@@ -44,34 +45,14 @@ spanOf Vcm index bs = record { first = channelOf (take (vcm 0 .block .size) bs) 
 spanOf Dcm index bs =
     let r = rangeOf (take (dcm .block .size) bs) in
     record { first = index; count = r .count; takes = r .count }
+spanOf Ntt index bs = record { first = 0; count = 0; takes = 0 }
 
--- ---- the records of a live section, each with the place where it stands in the store
+-- ---- where the records of a live section are
 
--- where they are; a section that reads right has no refusal there
+-- a section that reads right has no refusal there
 unfoldable pub outlineIn : Outlined → Outline
 outlineIn (Refused n) = record { at = 0; map = 0; first = 0; count = 0; included = 0 }
 outlineIn (Records o) = o
-
-pub record Standing (R : Type 0) : Type 0 where
-  pub row : Numbered R
-  pub at : ℕ
-
--- what is made of what was got; of a refusal nothing
-unfoldable pub ofGot : {A B : Type 0} → Got A → (A → List ℕ → List B) → List B
-ofGot (refused n) f = []
-ofGot (got a rest) f = f a rest
-
--- as `records`: the bytes end at a place of the store, so a record stands as many bytes before it as are left
-unfoldable pub standing : {R : Type 0} → Layout R → (n index end : ℕ) → List ℕ → List (Standing R)
-standing l zero index end bs = []
-standing l (suc n) index end bs =
-    ofGot (entry l index bs) (λ r rest. record { row = r; at = end - length bs } ∷ standing l n (after l r) end rest)
-
-unfoldable pub standingIn : State → List ℕ → (t : Table) → (n : ℕ) → List (Standing (RecordOf t))
-standingIn s store t n =
-    let b = withoutCrc (sectionAt store (liveAt s t n)) in
-    let o = outlineIn (outlineOf t b) in
-    standing (layoutOf t (o .included)) (o .count) (o .first) (liveAt s t n + length b) (from b (o .at))
 
 -- ---- entries
 
@@ -80,10 +61,12 @@ unfoldable pub entryNumber : {R : Type 0} → Option (Standing R) → ℕ
 entryNumber none = 0
 entryNumber (some x) = 1 + x .at + x .row .index * 2 ^ 32
 
--- the first of the live records, lowest section first, that goes by a number
+-- the first of the live records, lowest section first, that passes a test; and that goes by a number
+unfoldable pub entryBy : State → List ℕ → (t : Table) → (Numbered (RecordOf t) → Bool) → ℕ
+entryBy s store t test = entryNumber (first (λ x. test (x .row)) (liveStanding s store t))
+
 unfoldable pub entryOf : State → List ℕ → (t : Table) → (number : ℕ) → ℕ
-entryOf s store t number =
-    entryNumber (first (λ x. testOf t number (x .row)) (sections (standingIn s store t) (liveCount s t) 0))
+entryOf s store t number = entryBy s store t (testOf t number)
 
 -- the record that an entry names
 unfoldable pub recordNamed : (t : Table) → (store : List ℕ) → (entry : ℕ) → Option (Numbered (RecordOf t))

@@ -1,4 +1,4 @@
-// The searches of the live tables, for channels, carriers, modes and ranges alike: nested loops over sections and records, left from
+// The searches of the live tables, for channels, carriers, modes, ranges and names alike: nested loops over sections and records, left from
 // inside at the first match. They go over places that passed check 16, so a record is passed by its size and its descriptors alone.
 // What is found is an entry, a number that says where in the store the record stands; what the record says is read there.
 ghost use mathlib.Core.Path.{_≡_};
@@ -11,16 +11,18 @@ ghost use Rattle.rules.specs.Tables.{inKhz, carrierKhz};
 ghost use Rattle.rules.specs.Section.{withoutCrc};
 ghost use Rattle.rules.specs.Holding.{sectionAt, liveAt};
 ghost use Rattle.rules.specs.Tuning.{covers, definedBy};
+ghost use Rattle.rules.specs.Label.{isName};
 ghost use Rattle.rules.specs.declared.Table.the-variants as table;
 ghost use Rattle.fields.specs.Place.{Stands};
 ghost use Rattle.fields.specs.Outline.{layoutOf};
-ghost use Rattle.search.specs.Entries.{Live, outlineIn, spanOf, recordNamed, entryOf};
-ghost use Rattle.search.specs.Found.{carrierFound, modeFound, channelFound};
+ghost use Rattle.search.specs.Entries.{Live, outlineIn, spanOf, recordNamed, entryBy, entryOf};
+ghost use Rattle.search.specs.Found.{carrierFound, modeFound, channelFound, labelNamed, Brief};
 use fields::Outline;
 use fields::Outlined;
 use fields::Skip;
 use rules::Carriers;
 use rules::Channel;
+use rules::Labelled;
 use rules::Measure;
 use rules::Mode;
 use rules::State;
@@ -98,6 +100,12 @@ fn span_of(t: Table, b: &[u8], at: usize, index: u32) -> Span
                 takes: r.count,
             }
         }
+        // a name goes by two numbers, its flag and its number: see `name_entry`
+        Table::Ntt => Span {
+            first: 0,
+            count: 0,
+            takes: 0,
+        },
     }
 }
 
@@ -121,6 +129,7 @@ fn past_record(t: Table, b: &[u8], at: usize, included: u8) -> Skip
         Table::Mms => fields::past_counted(b, at + mms::SIZE, true),
         Table::Vcm => fields::past_counted(b, at + vcm::SIZE, included == 1),
         Table::Dcm => fields::past_counted(b, at + dcm::SIZE, false),
+        Table::Ntt => fields::past_counted(b, at + ntt::name_size(b, at), true),
     }
 }
 
@@ -245,6 +254,31 @@ pub fn range_entry(s: State, store: &[u8], number: u16) -> u64
     0
 }
 
+// Of the first name of an application, or of a source, by its number.
+pub fn name_entry(s: State, store: &[u8], application: u8, number: u16) -> u64
+    requires { ⌜ Live s (now store) table.Ntt ⌝ }
+    ensures { λ r. ⌜ r ≡ entryBy s (now (store .entry)) table.Ntt (isName application number) ⌝ }
+{
+    let h = state::holding_of(s, Table::Ntt);
+    let sections = h.live.last as u16 + 1;
+    for i in 0..sections {
+        let start = state::place_of(s, Table::Ntt, h.half, i as u8);
+        let b = live_bytes(s, store, Table::Ntt, i as u8);
+        let walk = outline_in(ntt::outline(b));
+        let mut at = walk.at;
+        for k in 0..walk.count {
+            let Skip::At(next) = past_record(Table::Ntt, b, at, walk.included) else {
+                break;
+            };
+            if ntt::is_name(fields::part(b, at, ntt::FRONT), application, number) {
+                return entry_at(start + at, walk.first as u32);
+            }
+            at = next;
+        }
+    }
+    0
+}
+
 // ---- what the record of an entry says
 
 pub enum CarrierFound {
@@ -343,4 +377,20 @@ pub fn defined_at(store: &[u8], entry: u64) -> bool
     }
     let r = dcm::range_of(fields::part(store, place_in(entry), dcm::SIZE));
     r.defined == 1
+}
+
+// The label that a name is: where in the store it stands, and its length, the last byte in front of it. Without an entry the
+// fallback.
+pub fn label_at(store: &[u8], entry: u64) -> Labelled
+    ensures { λ r. ⌜ r ≡ labelNamed (now (store .entry)) entry ⌝ }
+    ensures { λ r. ⌜ Brief r ⌝ }
+{
+    if entry == 0 {
+        return Labelled::Fallback;
+    }
+    let place = place_in(entry);
+    Labelled::Named {
+        start: place + ntt::FRONT,
+        size: fields::byte(store, place + ntt::LENGTH) as usize,
+    }
 }

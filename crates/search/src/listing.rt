@@ -55,6 +55,7 @@ fn outline_of(t: Table, b: &[u8]) -> Outline
         Table::Mms => crate::outline_in(mms::outline(b)),
         Table::Vcm => crate::outline_in(vcm::outline(b)),
         Table::Dcm => crate::outline_in(dcm::outline(b)),
+        Table::Ntt => crate::outline_in(ntt::outline(b)),
     }
 }
 

@@ -94,54 +94,60 @@ module _ (s : State) (store : List ℕ) (number : ℕ) where
   unfolding tune needs
   looked-up e h = let p = passed s store e in simp (le-leb (storeSize (limitOf s)) (length store) (p .roomy), p .good, le-leb number 4095 h, p .live, p .reads)
 
--- where a check is not passed: 14 has its place between 2 and 15
-module _ (t : Tuned) (n : ℕ) where
+-- where a check is not passed: 14 has its place between 2 and 15. Of every question that asks so, tuning or another
+module _ {A : Type 0} (refuse : ℕ → A) (ask : Bool → ℕ → A → A) (yes : (n : ℕ) (t : A) → ask true n t ≡ t) (no : (n : ℕ) (t : A) → ask false n t ≡ refuse n)
+    (t : A) (n : ℕ) where
   abbrev Check : (roomy good live reads : Bool) → ℕ
   Check roomy good live reads = cond roomy (cond good (cond live (cond reads 0 16) 15) 2) 1
 
-  abbrev Tune : (roomy good low live reads : Bool) → Tuned
-  Tune roomy good low live reads = needs roomy 1 (needs good 2 (needs low 14 (needs live 15 (needs reads 16 t))))
+  abbrev Ask : (roomy good low live reads : Bool) → A
+  Ask roomy good low live reads = ask roomy 1 (ask good 2 (ask low 14 (ask live 15 (ask reads 16 t))))
 
-  early : (roomy good low live reads : Bool) → n ≡ Check roomy good live reads → (n ≡ 0 → ⊥) → n < 14 → Tuned.Refused n ≡ Tune roomy good low live reads
-  unfolding needs
-  early false good low live reads e ne h = ap Tuned.Refused e
-  early true false low live reads e ne h = ap Tuned.Refused e
+  pub early : (roomy good low live reads : Bool) → n ≡ Check roomy good live reads → (n ≡ 0 → ⊥) → n < 14 → refuse n ≡ Ask roomy good low live reads
+  early false good low live reads e ne h = ap refuse e ∙ sym (no 1 _)
+  early true false low live reads e ne h = ap refuse e ∙ sym (yes 1 _ ∙ no 2 _)
   early true true low false reads e ne h = absurd (omega arith)
   early true true low true false e ne h = absurd (omega arith)
   early true true low true true e ne h = absurd (ne e)
 
-  high : (roomy good low live reads : Bool) → n ≡ Check roomy good live reads → 14 ≤ n → low ≡ false → Tuned.Refused 14 ≡ Tune roomy good low live reads
-  unfolding needs
+  pub high : (roomy good low live reads : Bool) → n ≡ Check roomy good live reads → 14 ≤ n → low ≡ false → refuse 14 ≡ Ask roomy good low live reads
   high false good low live reads e h f = absurd (omega arith)
   high true false low live reads e h f = absurd (omega arith)
   high true true true live reads e h f = absurd (differ f)
-  high true true false live reads e h f = refl
+  high true true false live reads e h f = sym (yes 1 _ ∙ yes 2 _ ∙ no 14 _)
 
-  late : (roomy good low live reads : Bool) → n ≡ Check roomy good live reads → (n ≡ 0 → ⊥) → 14 ≤ n → low ≡ true
-      → Tuned.Refused n ≡ Tune roomy good low live reads
-  unfolding needs
+  pub late : (roomy good low live reads : Bool) → n ≡ Check roomy good live reads → (n ≡ 0 → ⊥) → 14 ≤ n → low ≡ true
+      → refuse n ≡ Ask roomy good low live reads
   late false good low live reads e ne h f = absurd (omega arith)
   late true false low live reads e ne h f = absurd (omega arith)
   late true true false live reads e ne h f = absurd (differ (sym f))
-  late true true true false reads e ne h f = ap Tuned.Refused e
-  late true true true true false e ne h f = ap Tuned.Refused e
+  late true true true false reads e ne h f = ap refuse e ∙ sym (yes 1 _ ∙ yes 2 _ ∙ yes 14 _ ∙ no 15 _)
+  late true true true true false e ne h f = ap refuse e ∙ sym (yes 1 _ ∙ yes 2 _ ∙ yes 14 _ ∙ yes 15 _ ∙ no 16 _)
   late true true true true true e ne h f = absurd (ne e)
+
+needed : (n : ℕ) (t : Tuned) → needs true n t ≡ t
+unfolding needs
+needed n t = refl
+
+not-needed : (n : ℕ) (t : Tuned) → needs false n t ≡ Tuned.Refused n
+unfolding needs
+not-needed n t = refl
 
 module _ (s : State) (store : List ℕ) (number n : ℕ) (e : n ≡ checks s store) where
   pub refused-early : (n ≡ 0 → ⊥) → n < 14 → Tuned.Refused n ≡ tune s store number
   unfolding checks tune
   refused-early ne h =
-      early (lookUp (plant s store) number) n (leb (storeSize (limitOf s)) (length store)) (wellFormed s) (leb number 4095) (allLive s)
+      early Tuned.Refused needs needed not-needed (lookUp (plant s store) number) n (leb (storeSize (limitOf s)) (length store)) (wellFormed s) (leb number 4095) (allLive s)
       (allRead s store) e ne h
 
   pub refused-high : 14 ≤ n → 4095 < number → Tuned.Refused 14 ≡ tune s store number
   unfolding checks tune
   refused-high h f =
-      high (lookUp (plant s store) number) n (leb (storeSize (limitOf s)) (length store)) (wellFormed s) (leb number 4095) (allLive s) (allRead s store) e h
+      high Tuned.Refused needs needed not-needed (lookUp (plant s store) number) n (leb (storeSize (limitOf s)) (length store)) (wellFormed s) (leb number 4095) (allLive s) (allRead s store) e h
       (lt-leb number 4095 f)
 
   pub refused-late : (n ≡ 0 → ⊥) → 14 ≤ n → number ≤ 4095 → Tuned.Refused n ≡ tune s store number
   unfolding checks tune
   refused-late ne h f =
-      late (lookUp (plant s store) number) n (leb (storeSize (limitOf s)) (length store)) (wellFormed s) (leb number 4095) (allLive s) (allRead s store) e ne h
+      late Tuned.Refused needs needed not-needed (lookUp (plant s store) number) n (leb (storeSize (limitOf s)) (length store)) (wellFormed s) (leb number 4095) (allLive s) (allRead s store) e ne h
       (le-leb number 4095 f)

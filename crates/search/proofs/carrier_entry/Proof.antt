@@ -5,29 +5,30 @@ use mathlib.Core.Path.{refl, sym, ap, _∙_}
 use mathlib.Core.Logic.{⊎-elim}
 use denote.Ref.{now}
 use borrow.Author.Needs.{needs}
+use Rattle.rules.specs.Tuning.{isCarrier}
 use Rattle.rules.specs.declared.Table.the-variants.{Cds}
 use Rattle.fields.proofs.Laws.{at-got, at-no}
 use Rattle.search.specs.{Entries.outlineIn, Entries.entryOf, declared.Span.Span}
 use Rattle.search.proofs.Sections.{one-of, behind-all, live-place}
-use Rattle.search.proofs.Entries.{Outside, Inside, set-out, none-left, go-in, go-out, fits, small, never, match, pass}
+use Rattle.search.proofs.Entries.{Outside, Inside, set-off, none-left, go-in, go-out, fits, small, never, match, pass}
 use Rattle.search.proofs.carrier_entry.Statement.{statement}
 use Rattle.search.proofs.carrier_entry.Tie as tie
 
 abbrev Inv-loop2 : tie.InvT-loop2
 Inv-loop2 s store number h sections i start b walk at₀ index₀ k₀ k-end at index k =
-    Inside s store Cds number (walk .included) start i (k-end - k) index b at (entryOf s store Cds number) × (index ≤ 65535 + 255 * k)
+    Inside s store Cds (isCarrier number) (walk .included) start i (k-end - k) index b at (entryOf s store Cds number) × (index ≤ 65535 + 255 * k)
 
 abbrev μ-loop2 : tie.MeasureT-loop2
 μ-loop2 s store number h sections i start b walk at₀ index₀ k₀ k-end at index k = k-end - k
 
 abbrev Inv-loop : tie.InvT-loop
-Inv-loop s store number h sections i₀ i = Outside s store Cds number i (entryOf s store Cds number)
+Inv-loop s store number h sections i₀ i = Outside s store Cds (isCarrier number) i (entryOf s store Cds number)
 
 abbrev μ-loop : tie.MeasureT-loop
 μ-loop s store number h sections i₀ i = sections - i
 
 loop-holds : tie.Need-loop-holds Inv-loop2 μ-loop2 Inv-loop μ-loop
-loop-holds c = set-out _ _ _ _
+loop-holds c = set-off _ _ _ _
 
 loop2-holds : tie.Need-loop2-holds Inv-loop2 μ-loop2 Inv-loop μ-loop
 loop2-holds c =
@@ -37,7 +38,7 @@ loop2-holds c =
     let g = l .before .before in
     let a = g .before .before in
     let e = g .holding-of .ensures in (
-      rw sub-zero (go-in (a .args .s) (now (a .args .store)) Cds (a .args .number) (a .pre) (l .loop .inv)
+      rw sub-zero (go-in (a .args .s) (now (a .args .store)) Cds (isCarrier (a .args .number)) (a .pre) (l .loop .inv)
           (one-of _ _ _ e (p .before .loop-test .taken)) _ _ _ (o .before .before .live-bytes .ensures)
           (o .outline-in .ensures ∙ ap outlineIn (o .before .outline .ensures)) (p .place-of .ensures ∙ live-place _ _ _ e)),
       omega (arith, c .struct-known2 .given),

@@ -6,31 +6,32 @@ use mathlib.Core.Logic.{⊎-elim}
 use denote.Ref.{now}
 use borrow.Author.{Needs.needs, Tests.eq-eqb, Tests.ne-eqb}
 use Rattle.rules.specs.Tables.{vcm}
+use Rattle.rules.specs.Tuning.{isChannel}
 use Rattle.rules.specs.declared.Table.the-variants.{Vcm}
 use Rattle.fields.proofs.Laws.{at-got, at-no}
 use Rattle.search.specs.{Entries.outlineIn, Entries.entryOf}
 use Rattle.search.proofs.Sections.{one-of, behind-all, live-place}
-use Rattle.search.proofs.Entries.{Outside, Inside, set-out, none-left, go-in, go-out, fits, small, never, match, pass}
+use Rattle.search.proofs.Entries.{Outside, Inside, set-off, none-left, go-in, go-out, fits, small, never, match, pass}
 use Rattle.search.proofs.Entries.{channel-goes, channel-takes}
 use Rattle.search.proofs.channel_entry.Statement.{statement}
 use Rattle.search.proofs.channel_entry.Tie as tie
 
 abbrev Inv-loop2 : tie.InvT-loop2
 Inv-loop2 s store number h sections i start b walk at₀ k₀ k-end at k =
-    Inside s store Vcm number (walk .included) start i (k-end - k) (walk .first) b at (entryOf s store Vcm number)
+    Inside s store Vcm (isChannel number) (walk .included) start i (k-end - k) (walk .first) b at (entryOf s store Vcm number)
 
 abbrev μ-loop2 : tie.MeasureT-loop2
 μ-loop2 s store number h sections i start b walk at₀ k₀ k-end at k = k-end - k
 
 abbrev Inv-loop : tie.InvT-loop
-Inv-loop s store number h sections i₀ i = Outside s store Vcm number i (entryOf s store Vcm number)
+Inv-loop s store number h sections i₀ i = Outside s store Vcm (isChannel number) i (entryOf s store Vcm number)
 
 abbrev μ-loop : tie.MeasureT-loop
 μ-loop s store number h sections i₀ i = sections - i
 
 loop-holds : tie.Need-loop-holds Inv-loop2 μ-loop2 Inv-loop μ-loop
 unfolding vcm
-loop-holds c = set-out _ _ _ _
+loop-holds c = set-off _ _ _ _
 
 loop2-holds : tie.Need-loop2-holds Inv-loop2 μ-loop2 Inv-loop μ-loop
 unfolding vcm
@@ -40,7 +41,7 @@ loop2-holds c =
     let g = l .before .before in
     let a = g .before .before in
     let e = g .holding-of .ensures in
-    rw sub-zero (go-in (a .args .s) (now (a .args .store)) Vcm (a .args .number) (a .pre) (l .loop .inv)
+    rw sub-zero (go-in (a .args .s) (now (a .args .store)) Vcm (isChannel (a .args .number)) (a .pre) (l .loop .inv)
     (one-of _ _ _ e (p .before .loop-test .taken)) _ _ _ (c .before .before .live-bytes .ensures)
     (c .outline-in .ensures ∙ ap outlineIn (c .before .outline .ensures)) (p .place-of .ensures ∙ live-place _ _ _ e))
 

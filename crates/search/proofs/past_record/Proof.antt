@@ -4,7 +4,7 @@ use native.Mathlib.Omega.{arith}
 use mathlib.Core.{Path._≡_, Path.sym, Path.subst, List.List}
 use borrow.Author.Needs.{needs}
 use Rattle.rules.specs.{Bytes.from, Descriptors.counted, Layout.extent, declared.Table.Table}
-use Rattle.rules.specs.Tables.{cds, mms, vcm, dcm}
+use Rattle.rules.specs.Tables.{cds, mms, vcm, dcm, ntt}
 use Rattle.rules.specs.declared.Table.the-variants as table
 use Rattle.fields.specs.{Place.Stands, Outline.layoutOf, declared.Skip.Skip}
 use Rattle.search.proofs.past_record.Statement.{statement}
@@ -21,7 +21,7 @@ size-as : (t u : Table) → t ≡ u → (included : ℕ) (bs : List ℕ) (n : �
 size-as t u e included bs n h = subst (λ (x : Table). extent (layoutOf x included .block) bs ≤ n) e h
 
 pub past-record-spec : {M : Type 1} → statement M
-unfolding cds mms vcm dcm
+unfolding cds mms vcm dcm ntt
 past-record-spec = tie.close (tie.spec (λ c. search needs)
     (λ c. omega (arith, size-as _ table.Cds (c .enum-told .given .1) _ _ _ (c .before .before .before .pre)))
     (λ c κs. search needs) (λ c. search needs)
@@ -30,8 +30,12 @@ past-record-spec = tie.close (tie.spec (λ c. search needs)
     (λ c. omega (arith, size-as _ table.Vcm (c .enum-told3 .given .1) _ _ _ (c .before .before .before .pre)))
     (λ c κs. search needs) (λ c. search needs)
     (λ c. omega (arith, size-as _ table.Dcm (c .enum-told4 .given .1) _ _ _ (c .before .before .before .pre)))
+    (λ c κs. search needs) (λ c. search needs) (λ c κs. search needs)
+    (λ c. let f = c .before in
+    omega (arith, size-as _ table.Ntt (f .enum-told5 .given .1) _ _ _ (f .before .before .before .pre), c .name-size .ensures .0))
     (λ c κs. search needs)
     (λ c. past-as _ table.Cds (c .before .enum-told .given .1) _ _ _ _ (c .past-counted .ensures))
     (λ c. past-as _ table.Mms (c .before .enum-told2 .given .1) _ _ _ _ (c .past-counted2 .ensures))
     (λ c. past-as _ table.Vcm (c .before .enum-told3 .given .1) _ _ _ _ (c .past-counted3 .ensures))
-    (λ c. past-as _ table.Dcm (c .before .enum-told4 .given .1) _ _ _ _ (c .past-counted4 .ensures)))
+    (λ c. past-as _ table.Dcm (c .before .enum-told4 .given .1) _ _ _ _ (c .past-counted4 .ensures))
+    (λ c. past-as _ table.Ntt (c .before .before .enum-told5 .given .1) _ _ _ _ (rw (← c .before .name-size .ensures .0) (c .past-counted5 .ensures))))
