@@ -60,6 +60,6 @@ module _ {M : Type 1} (𝓤 : URA M) (H : Heap 𝓤) (A : Atoms 𝓤) (mem : Mem
   )
 
   pub gather-determined : DeterminedBy 𝓤 {T = gather.ended} (gather.clauses 𝓤 H A mem run)
-      (λ κs r e. withLent r (withLent (now (e .1 .1 .0)) (now (e .1 .1 .1 .0)))) (List Given)
-      (λ κs a g given r e. GatheredAs given (a .1 .0) (now (a .1 .1 .1 .0)) r (now (e .1 .1 .0)) (now (e .1 .1 .1 .0)))
+      (λ κs r e. withLent r (withLent (now (e .1 .1 .1 .0)) (now (e .1 .1 .1 .1 .0)))) (List Given)
+      (λ κs a g given r e. GatheredAs given (a .1 .0) (now (a .1 .1 .1 .1 .0)) r (now (e .1 .1 .1 .0)) (now (e .1 .1 .1 .1 .0)))
   gather-determined = (λ κs a g r e. id⊢ 𝓤 _, λ κs a g given r q e f x y. gathered-once r q _ _ _ _ x y)

@@ -9,7 +9,7 @@ use lib.Seq.{length-take-le, take-at, drop-at, drop-drop, take-append-le}
 use borrow.Author.Tests.{eq-eqb, ne-eqb}
 use borrow.Rule.Slice.PartMut.{midOf, putMid, mid-len}
 use Rattle.io.specs.Counts.{clamped}
-use Rattle.rules.specs.{Bytes.from, Holding.put, Lineup.freshBox}
+use Rattle.rules.specs.{Bytes.from, Holding.put, Lineup.english, Lineup.freshBox}
 use Rattle.rules.specs.Feeding.{Intake, unfinished, begin, feed, feedAll, finish}
 use Rattle.stream.specs.{declared.Tally.Tally, declared.Absorbed.Absorbed, Tallied.intakeOf, Tallied.begun, Tallied.Grew}
 use Rattle.stream.specs.Tallied as tallied
@@ -204,7 +204,7 @@ module _ {start : Tally} {store₀ buffer₀ : List ℕ} {reads : ℕ} {h : Abso
 -- ---- a fresh box, and its last section
 
 pub all-gathered : (map : ℕ) (t : Tally) (store buffer : List ℕ) (r : Followed) (store' buffer' : List ℕ) (given : List Given) (u : Tally) (last : List ℕ)
-    → t ≡ begun map → store ≡ freshBox map .store → FollowedAs given t store buffer r store' buffer'
+    → t ≡ begun map english → store ≡ freshBox map .store → FollowedAs given t store buffer r store' buffer'
     → intakeOf u last [] ≡ finish (intakeOf (r .held .tally) store' (take (r .held .kept) buffer'))
     → GatheredAs given map buffer (record { tally = u; failed = r .failed }) last buffer'
 unfolding gathered heldIn begun intakeOf begin freshBox

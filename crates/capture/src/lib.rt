@@ -6,7 +6,7 @@ ghost use Prim.Native.Nat.{_+_, _≤_, _<_};
 ghost use mathlib.Core.List.{List};
 ghost use lib.ListN.{length};
 ghost use Rattle.rules.specs.Holding.{put};
-ghost use Rattle.rules.specs.Lineup.{freshBox};
+ghost use Rattle.rules.specs.Lineup.{english, freshBox};
 ghost use Rattle.stream.specs.Tallied.{Room, Grew};
 ghost use Rattle.capture.specs.Read.{Given, gotBy, FollowedAs, GatheredAs};
 use stream::Absorbed;
@@ -90,13 +90,15 @@ pub fn follow(fd: i32, start: Tally, store: &mut [u8], buffer: &mut [u8]) -> Fol
     }
 }
 
-// What a fresh box has made of the sections of the whole input.
-pub fn gather(fd: i32, map: u16, store: &mut [u8], buffer: &mut [u8]) -> Gathered
+// What a fresh box has made of the sections of the whole input. Its language is the one that the rules' programs start with, since their texts
+// are what is printed of it; the bytes themselves stand in the programs.
+pub fn gather(fd: i32, map: u16, language: [u8; 3], store: &mut [u8], buffer: &mut [u8]) -> Gathered
     requires { ⌜ length (now buffer) ≡ 65536 ⌝ }
+    requires { ⌜ language ≡ english ⌝ }
     requires { ⌜ now store ≡ freshBox map .store ⌝ }
     ensures { λ r. ⌜ ((given : List Given) × GatheredAs given map (now (buffer .entry)) r (now (store .exit)) (now (buffer .exit))) ⌝ }
 {
-    let followed = follow(fd, stream::begin(map), store, buffer);
+    let followed = follow(fd, stream::begin(map, language), store, buffer);
     let kept = followed.held.kept;
     let tally = followed.held.tally;
     let failed = followed.failed;

@@ -5,9 +5,9 @@ ghost use mathlib.Core.Path.{_≡_};
 ghost use Prim.Native.Nat.{_≤_};
 ghost use lib.ListN.{length, take};
 ghost use Rattle.rules.specs.Bytes.{word};
-ghost use Rattle.rules.specs.Lineup.{freshBox};
+ghost use Rattle.rules.specs.Lineup.{freshBox, lineup};
 ghost use Rattle.text.specs.Written.{Counts};
-ghost use Rattle.lineup.specs.Read.{Shown};
+ghost use Rattle.printout.specs.Shown.{Shown};
 use libc::STDERR_FILENO;
 use libc::STDIN_FILENO;
 use libc::STDOUT_FILENO;
@@ -23,7 +23,7 @@ fn line_up(
 ) -> Printed
     requires { ⌜ length (now head) ≤ 2 ⌝ }
     requires { ⌜ now store ≡ freshBox (word 0 (now head)) .store ⌝ }
-    ensures { λ r. ⌜ Shown (now (head .entry)) (take (r .heading) (now (heading .exit))) (take (r .lines) (now (lines .exit))) ⌝ }
+    ensures { λ r. ⌜ Shown lineup (now (head .entry)) (take (r .heading) (now (heading .exit))) (take (r .lines) (now (lines .exit))) ⌝ }
     ensures { λ r. ⌜ Counts (r .heading) (now (heading .exit)) ⌝ }
     ensures { λ r. ⌜ Counts (r .lines) (now (lines .exit)) ⌝ }
 {
@@ -33,7 +33,7 @@ fn line_up(
             lines: 0,
         };
     }
-    let gathered = capture::gather(STDIN_FILENO, stream::map_of(head), store, buffer);
+    let gathered = capture::gather(STDIN_FILENO, stream::map_of(head), *b"eng", store, buffer);
     let tally = gathered.tally;
     printout::print(tally, store, heading, lines)
 }

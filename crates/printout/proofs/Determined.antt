@@ -1,4 +1,4 @@
--- Two outcomes that a promise of this crate allows are equal: how many lines and bytes were written, and every byte of both
+-- Two outcomes that a promise of this crate allows are equal: how many bytes were written, and every byte of both
 -- buffers, behind what was written too.
 use Prim.Native.Nat.{ℕ}
 use mathlib.Core.{Path._≡_, List.List}
@@ -13,18 +13,9 @@ use prog.Wp.{Heap}
 use Rattle.rules.proofs.Determined.{Determined, withLent, determined-once, both-say}
 use Rattle.text.specs.Written.{Wrote}
 use Rattle.text.proofs.Determined.{same-end, same-bytes}
-use Rattle.printout.specs.{declared.Lines.Lines, declared.Printed.Printed}
-use Rattle.printout.proofs.channel_lines
+use Rattle.printout.specs.declared.Printed.{Printed}
 use Rattle.printout.proofs.print
-
-lines-once : (out t b c : List ℕ) (r q : Lines) (n : ℕ) → Wrote out 0 t b (r .size) → r .count ≡ n → Wrote out 0 t c (q .size) → q .count ≡ n
-    → withLent r b ≡ withLent q c
-lines-once out t b c r q n w e x f =
-    let size : r .size ≡ q .size = same-end w x in
-    let bytes : b ≡ c = same-bytes w x in
-    let both : _≡_ {A = Lines} (record { count = r .count; size = r .size }) (record { count = q .count; size = q .size }) = cc in
-    let lines : r ≡ q = both in
-    cc
+use Rattle.printout.proofs.print_labels
 
 printed-once : (out t b c more u l m : List ℕ) (r q : Printed) → Wrote out 0 t b (r .heading) → Wrote more 0 u l (r .lines) → Wrote out 0 t c (q .heading)
     → Wrote more 0 u m (q .lines) → withLent r (withLent b l) ≡ withLent q (withLent c m)
@@ -38,15 +29,16 @@ printed-once out t b c more u l m r q w v x y =
     cc
 
 module _ {M : Type 1} (𝓤 : URA M) (H : Heap 𝓤) (A : Atoms 𝓤) (mem : Memory → SProp 𝓤) (run : Routine → Fun 𝓤) where
-  pub channel_lines-determined : Determined 𝓤 {T = channel_lines.ended} (channel_lines.clauses 𝓤 H A mem run) (λ κs r e. withLent r (now (e .1 .1 .0)))
-  channel_lines-determined =
-      determined-once 𝓤 {T = channel_lines.ended} (channel_lines.clauses 𝓤 H A mem run) _ _
-      (λ κs a g r e. both-say 𝓤 (id⊢ 𝓤 _) (both-say 𝓤 (id⊢ 𝓤 _) (id⊢ 𝓤 _)))
-      (λ κs a g r q e f x y. lines-once _ _ _ _ r q _ (x .0) (x .1 .0) (y .0) (y .1 .0))
-
   pub print-determined : Determined 𝓤 {T = print.ended} (print.clauses 𝓤 H A mem run)
       (λ κs r e. withLent r (withLent (now (e .1 .1 .0)) (now (e .1 .1 .1 .0))))
   print-determined =
       determined-once 𝓤 {T = print.ended} (print.clauses 𝓤 H A mem run) _ _
+      (λ κs a g r e. both-say 𝓤 (id⊢ 𝓤 _) (both-say 𝓤 (id⊢ 𝓤 _) (both-say 𝓤 (id⊢ 𝓤 _) (id⊢ 𝓤 _))))
+      (λ κs a g r q e f x y. printed-once _ _ _ _ _ _ _ _ r q (x .0) (x .1 .0) (y .0) (y .1 .0))
+
+  pub print_labels-determined : Determined 𝓤 {T = print_labels.ended} (print_labels.clauses 𝓤 H A mem run)
+      (λ κs r e. withLent r (withLent (now (e .1 .1 .0)) (now (e .1 .1 .1 .0))))
+  print_labels-determined =
+      determined-once 𝓤 {T = print_labels.ended} (print_labels.clauses 𝓤 H A mem run) _ _
       (λ κs a g r e. both-say 𝓤 (id⊢ 𝓤 _) (both-say 𝓤 (id⊢ 𝓤 _) (both-say 𝓤 (id⊢ 𝓤 _) (id⊢ 𝓤 _))))
       (λ κs a g r q e f x y. printed-once _ _ _ _ _ _ _ _ r q (x .0) (x .1 .0) (y .0) (y .1 .0))

@@ -1,11 +1,11 @@
--- The line-up of an input at the front of a buffer, where there is room for it.
+-- A text at the front of a buffer, where there is room for it.
 use Prim.Native.Nat.{ℕ}
 use mathlib.Core.{Bool.cond, List.List}
 use lib.{Dec.leb, ListN.length}
-use Rattle.rules.specs.{Holding.put, Lineup.lineup}
+use Rattle.rules.specs.Holding.{put}
 
-unfoldable pub lineupSize : (input : List ℕ) → (room : ℕ) → ℕ
-lineupSize input room = cond (leb (length (lineup input)) room) (length (lineup input)) 0
+unfoldable pub sizeIn : (text : List ℕ) → (room : ℕ) → ℕ
+sizeIn text room = cond (leb (length text) room) (length text) 0
 
-unfoldable pub lineupIn : (input out : List ℕ) → List ℕ
-lineupIn input out = cond (leb (length (lineup input)) (length out)) (put out 0 (lineup input)) out
+unfoldable pub putIn : (text out : List ℕ) → List ℕ
+putIn text out = cond (leb (length text) (length out)) (put out 0 text) out

@@ -15,8 +15,8 @@ intakeOf t store kept =
       kept = kept;
     }
 
-unfoldable pub begun : (map : ℕ) → Tally
-begun map = record { state = fresh map; sections = 0; refused = 0 }
+unfoldable pub begun : (map : ℕ) → (language : List ℕ) → Tally
+begun map language = record { state = fresh map language; sections = 0; refused = 0 }
 
 -- some pieces were fed to a fresh box, and what was kept of the last is offered. A contract cannot say which bytes a read gives, so these are
 -- some

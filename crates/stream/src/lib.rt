@@ -39,12 +39,13 @@ pub fn map_of(input: &[u8]) -> u16
     fields::word(input, 0)
 }
 
-// A fresh box, which was offered nothing yet.
-pub fn begin(map: u16) -> Tally
-    ensures { λ r. ⌜ r ≡ begun map ⌝ }
+// A fresh box of any language, which was offered nothing yet. The rules' texts are those of an English box; that it is one is asked for by
+// `capture::gather`, whose promise speaks of their box, and not here.
+pub fn begin(map: u16, language: [u8; 3]) -> Tally
+    ensures { λ r. ⌜ r ≡ begun map language ⌝ }
 {
     Tally {
-        state: receiver::start(map),
+        state: receiver::start(map, language),
         sections: 0,
         refused: 0,
     }

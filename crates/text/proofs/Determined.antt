@@ -14,7 +14,10 @@ use Rattle.rules.proofs.Determined.{Determined, determined-by, withLent, determ
 use Rattle.text.specs.Written.{Wrote}
 use Rattle.text.proofs.heading
 use Rattle.text.proofs.refused
+use Rattle.text.proofs.label_heading
+use Rattle.text.proofs.labels_refused
 use Rattle.text.proofs.channel_line
+use Rattle.text.proofs.label_line
 use Rattle.text.proofs.lines_of
 
 -- a text at a place is written in one way
@@ -39,9 +42,24 @@ module _ {M : Type 1} (𝓤 : URA M) (H : Heap 𝓤) (A : Atoms 𝓤) (mem : Mem
       determined-once 𝓤 {T = refused.ended} (refused.clauses 𝓤 H A mem run) _ _ (λ κs a g r e. both-say 𝓤 (id⊢ 𝓤 _) (id⊢ 𝓤 _))
       (λ κs a g r q e f x y. wrote-once (x .0) (y .0))
 
+  pub label_heading-determined : Determined 𝓤 {T = label_heading.ended} (label_heading.clauses 𝓤 H A mem run) (λ κs r e. withLent r (now (e .0)))
+  label_heading-determined =
+      determined-once 𝓤 {T = label_heading.ended} (label_heading.clauses 𝓤 H A mem run) _ _ (λ κs a g r e. both-say 𝓤 (id⊢ 𝓤 _) (id⊢ 𝓤 _))
+      (λ κs a g r q e f x y. wrote-once (x .0) (y .0))
+
+  pub labels_refused-determined : Determined 𝓤 {T = labels_refused.ended} (labels_refused.clauses 𝓤 H A mem run) (λ κs r e. withLent r (now (e .0)))
+  labels_refused-determined =
+      determined-once 𝓤 {T = labels_refused.ended} (labels_refused.clauses 𝓤 H A mem run) _ _ (λ κs a g r e. both-say 𝓤 (id⊢ 𝓤 _) (id⊢ 𝓤 _))
+      (λ κs a g r q e f x y. wrote-once (x .0) (y .0))
+
   pub channel_line-determined : Determined 𝓤 {T = channel_line.ended} (channel_line.clauses 𝓤 H A mem run) (λ κs r e. withLent r (now (e .0)))
   channel_line-determined =
       determined-once 𝓤 {T = channel_line.ended} (channel_line.clauses 𝓤 H A mem run) _ _ (λ κs a g r e. id⊢ 𝓤 _)
+      (λ κs a g r q e f x y. wrote-once (x .1) (y .1))
+
+  pub label_line-determined : Determined 𝓤 {T = label_line.ended} (label_line.clauses 𝓤 H A mem run) (λ κs r e. withLent r (now (e .0)))
+  label_line-determined =
+      determined-once 𝓤 {T = label_line.ended} (label_line.clauses 𝓤 H A mem run) _ _ (λ κs a g r e. id⊢ 𝓤 _)
       (λ κs a g r q e f x y. wrote-once (x .1) (y .1))
 
   pub lines_of-determined : Determined 𝓤 {T = lines_of.ended} (lines_of.clauses 𝓤 H A mem run) (λ κs r e. r)

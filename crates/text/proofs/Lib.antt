@@ -1,3 +1,4 @@
 pub mod Written
 pub mod Lines
+pub mod Hex
 pub mod Determined

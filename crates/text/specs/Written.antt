@@ -1,10 +1,11 @@
 -- A text written into a buffer, and the parts of a line that the code writes one by one, over the bytes of a key.
-use Prim.Native.Nat.{ℕ, _+_, _≤_}
+use Prim.Native.Nat.{ℕ, _+_, _/_, _%_, _≤_}
 use mathlib.Core.Path.{_≡_}
-use mathlib.Core.List.{List, _++_}
+use mathlib.Core.List.{List, [], _∷_, _++_}
 use lib.ListN.{length, take}
 use Rattle.rules.specs.Holding.{put}
 use Rattle.rules.specs.Lineup.{text, decimal}
+use Rattle.rules.specs.LabelLines.{hexDigit}
 
 -- a text was put into out from `at` on: r is the place behind it, and out' is what out holds then, byte for byte
 pub record Wrote (out : List ℕ) (at : ℕ) (bytes out' : List ℕ) (r : ℕ) : Type 0 where
@@ -15,6 +16,10 @@ pub record Wrote (out : List ℕ) (at : ℕ) (bytes out' : List ℕ) (r : ℕ) :
 -- r counts bytes at the front of xs; in both words, as a caller's `&xs[..r]` asks for them
 abbrev pub Counts : ℕ → List ℕ → Type 0
 Counts r xs = (r ≤ length xs) × (r ≡ length (take r xs))
+
+-- the two digits of a byte
+unfoldable pub hexPair : (b : ℕ) → List ℕ
+hexPair b = hexDigit (b / 16) ∷ hexDigit (b % 16) ∷ []
 
 -- ---- the rules' `field`, `line` and `front`, over the bytes of a text
 

@@ -1,12 +1,13 @@
-// The lines of the printed line-up, written into a lent buffer at a place; every other byte of it stays. A number of 64 bits
+// The lines of the printed line-up and labels, written into a lent buffer at a place; every other byte of it stays. A number of 64 bits
 // has at most 20 digits, so each part of a line asks for room by its own text and 20 bytes for a number.
 ghost use mathlib.Core.Path.{_≡_};
-ghost use Prim.Native.Nat.{_+_, _<_, _≤_};
+ghost use Prim.Native.Nat.{_+_, _*_, _<_, _≤_};
 ghost use mathlib.Core.List.{[], _∷_, _++_, flatten};
 ghost use lib.ListN.{length};
 ghost use Rattle.rules.specs.Lineup.{text, decimal, version, versionLines, modeFields, channelLine};
 ghost use Rattle.rules.specs.Lineup as rule;
-ghost use Rattle.text.specs.Written.{Wrote, Counts, fieldOf, lineOf, frontOf, khzFront, codingFields, countLines};
+ghost use Rattle.rules.specs.LabelLines.{hexDigit, hexadecimal, labelLine, labelHeading};
+ghost use Rattle.text.specs.Written.{Wrote, Counts, hexPair, fieldOf, lineOf, frontOf, khzFront, codingFields, countLines};
 use rules::LiveVersion;
 use rules::Mode;
 use rules::State;
@@ -50,6 +51,40 @@ fn put_number(out: &mut [u8], at: usize, n: u64) -> usize
     put_byte(out, next, digit(n % 10))
 }
 
+// The digit of a number below 16, with a capital letter from 10 on.
+fn hex_digit(d: u8) -> u8
+    requires { ⌜ d < 16 ⌝ }
+    ensures { λ r. ⌜ r ≡ hexDigit d ⌝ }
+{
+    if d < 10 {
+        return 48 + d;
+    }
+    55 + d
+}
+
+// A byte in hexadecimal.
+fn put_pair(out: &mut [u8], at: usize, b: u8) -> usize
+    requires { ⌜ at + 2 ≤ length (now out) ⌝ }
+    ensures { λ r. ⌜ Wrote (now (out .entry)) at (hexPair b) (now (out .exit)) r ⌝ }
+{
+    let next = put_byte(out, at, hex_digit(b / 16));
+    put_byte(out, next, hex_digit(b % 16))
+}
+
+// Bytes in hexadecimal, two digits each.
+fn put_hex(out: &mut [u8], at: usize, bytes: &[u8]) -> usize
+    requires { ⌜ at + length (now bytes) * 2 ≤ length (now out) ⌝ }
+    ensures { λ r. ⌜ (r ≤ at + length (now (bytes .entry)) * 2) × Wrote (now (out .entry)) at (hexadecimal (now (bytes .entry))) (now (out .exit)) r ⌝ }
+{
+    let mut next = at;
+    let mut i = 0;
+    while i < bytes.len() {
+        next = put_pair(out, next, bytes[i]);
+        i += 1;
+    }
+    next
+}
+
 // A key with its number.
 fn put_field(out: &mut [u8], at: usize, key: &[u8], n: u64) -> usize
     requires { ⌜ at + length (now key) + 20 ≤ length (now out) ⌝ }
@@ -83,13 +118,14 @@ fn put_version(out: &mut [u8], at: usize, key: &[u8], live: LiveVersion) -> usiz
 }
 
 fn put_versions(out: &mut [u8], at: usize, s: State) -> usize
-    requires { ⌜ at + 100 ≤ length (now out) ⌝ }
-    ensures { λ r. ⌜ (r ≤ at + 100) × Wrote (now (out .entry)) at (versionLines s) (now (out .exit)) r ⌝ }
+    requires { ⌜ at + 125 ≤ length (now out) ⌝ }
+    ensures { λ r. ⌜ (r ≤ at + 125) × Wrote (now (out .entry)) at (versionLines s) (now (out .exit)) r ⌝ }
 {
     let cds = put_version(out, at, b"cds=", s.tables.cds.live);
     let mms = put_version(out, cds, b"mms=", s.tables.mms.live);
     let vcm = put_version(out, mms, b"vcm=", s.tables.vcm.live);
-    put_version(out, vcm, b"dcm=", s.tables.dcm.live)
+    let dcm = put_version(out, vcm, b"dcm=", s.tables.dcm.live);
+    put_version(out, dcm, b"ntt=", s.tables.ntt.live)
 }
 
 fn put_counts(out: &mut [u8], at: usize, map: u16, sections: u64, refused: u64) -> usize
@@ -118,6 +154,24 @@ pub fn refused(out: &mut [u8; 256]) -> usize
     ensures { λ r. ⌜ Counts r (now (out .exit)) ⌝ }
 {
     put(out, 0, b"lineup=refused\n")
+}
+
+// The lines of the labels from labels= to channels=, in the same way.
+pub fn label_heading(out: &mut [u8; 256], s: State, channels: u64) -> usize
+    ensures { λ r. ⌜ Wrote (now (out .entry)) 0 (labelHeading s channels) (now (out .exit)) r ⌝ }
+    ensures { λ r. ⌜ Counts r (now (out .exit)) ⌝ }
+{
+    let first = put(out, 0, b"labels=1\n");
+    let second = put_line(out, first, b"map=", s.settings.map as u64);
+    let third = put_version(out, second, b"ntt=", s.tables.ntt.live);
+    put_line(out, third, b"channels=", channels)
+}
+
+pub fn labels_refused(out: &mut [u8; 256]) -> usize
+    ensures { λ r. ⌜ Wrote (now (out .entry)) 0 (text "labels=refused\n") (now (out .exit)) r ⌝ }
+    ensures { λ r. ⌜ Counts r (now (out .exit)) ⌝ }
+{
+    put(out, 0, b"labels=refused\n")
 }
 
 // ---- the line of a channel
@@ -250,6 +304,17 @@ pub fn channel_line(out: &mut [u8], at: usize, number: u16, tuned: Tuned) -> usi
             number: application,
         } => put_application(out, at, number, hidden, path, application),
     }
+}
+
+// The line of a channel's label.
+pub fn label_line(out: &mut [u8], at: usize, number: u16, label: &[u8]) -> usize
+    requires { ⌜ (at + 546 ≤ length (now out)) × (length (now label) ≤ 255) ⌝ }
+    ensures { λ r. ⌜ (r ≤ at + 546) × Wrote (now (out .entry)) at (labelLine number (now (label .entry))) (now (out .exit)) r ⌝ }
+{
+    let first = put_field(out, at, b"channel=", number as u64);
+    let second = put(out, first, b" label=");
+    let third = put_hex(out, second, label);
+    put(out, third, b"\n")
 }
 
 // How many lines a channel has: 1, or 0 where it is refused.

@@ -87,7 +87,7 @@ fn main() {
     let mut store = [0u8; receiver::STORE];
     let mut buffer = [0u8; LONGEST];
     follow(
-        receiver::start(stream::map_of(&map)),
+        receiver::start(stream::map_of(&map), *b"eng"),
         &mut store,
         &mut buffer,
     );

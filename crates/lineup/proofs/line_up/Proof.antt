@@ -4,25 +4,28 @@ use mathlib.Core.Path.{refl}
 use denote.Ref.{now}
 use borrow.Author.Needs.{needs}
 use Rattle.capture.proofs.Laws.{some-pieces}
-use Rattle.printout.proofs.Shown.{all-shown, refused-shown}
-use Rattle.lineup.proofs.Laws.{refused-alone, with-rest}
+use Rattle.rules.specs.Lineup.{text, english, lineup}
+use Rattle.printout.proofs.Shown.{all-shown, refused-shown, refused-alone, with-rest}
 use Rattle.lineup.proofs.line_up.Statement.{statement}
 use Rattle.lineup.proofs.line_up.Tie as tie
 
 pub line-up-spec : {M : Type 1} → statement M
+unfolding english text
 line-up-spec = tie.close (tie.spec (λ c κs. search needs)
     (λ c. let r = c .refused .ensures in
     let head = now (c .before .before .before .before .before .args .head) in
-    (refused-alone head _ _ (refused-shown head refl (c .before .before .if1 .taken) (r .0)), (r .1, (omega arith, refl))))
+    (refused-alone lineup _ _ head (refused-shown head refl (c .before .before .if1 .taken) (r .0)), (r .1, (omega arith, refl))))
     (λ c κs. search needs)
-    (λ c κs. (search needs, rw (c .before .before .map-of .ensures) (c .before .before .before .before .before .before .pre .1)))
+    (λ c κs. let m = c .before .before .before .before in
+    (search needs, (refl, rw (m .map-of .ensures) (m .before .before .before .before .pre .1))))
     (λ c κs. search needs) (λ c. search needs)
     (λ c. let g = c .before .before .before .before .before .before .before in
-    let m = g .before .before .before in
+    let m = g .before .before .before .before .before in
     let a = m .before .before .before .before in
     let p = c .print .ensures in
     let head = now (a .args .head) in
-    let all = all-shown head (m .map-of .result) (g .gather .result .tally) _ (m .map-of .ensures) (some-pieces (g .gather .ensures .1)) (p .0) (p .1 .0) in (
-      with-rest head _ _ _ (m .before .if1 .left) (a .pre .0) all,
+    let got = some-pieces (g .gather .ensures .1) in
+    let all = all-shown head (m .map-of .result) (g .gather .result .tally) _ (m .map-of .ensures) got (p .0) (p .1 .0) in (
+      with-rest lineup _ _ head _ (m .before .if1 .left) (a .pre .0) all,
       p .1 .1,
     )))

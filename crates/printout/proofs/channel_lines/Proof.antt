@@ -3,12 +3,12 @@ use mathlib.Core.Path.{refl, sym, _∙_}
 use borrow.Author.Needs.{needs}
 use Rattle.rules.specs.declared.Table.the-variants.{Cds, Mms, Vcm, Dcm}
 use Rattle.tuner.proofs.Laws.{searchable}
-use Rattle.printout.proofs.Laws.{blank, no-lines-of, none-written, all-written}
+use Rattle.printout.proofs.Laws.{blank, no-lines-in, none-written, all-written}
 use Rattle.printout.proofs.channel_lines.Statement.{statement}
 use Rattle.printout.proofs.channel_lines.Tie as tie
 
 returns : tie.Need-returns
-returns c = none-written _ _ _ (no-lines-of _ _ _ (c .before .check .ensures) (c .if1 .taken))
+returns c = none-written _ _ _ (no-lines-in _ _ _ (c .before .check .ensures) (c .if1 .taken) _)
 
 list-records-requires : tie.Need-list-records-requires
 list-records-requires c κs =
@@ -52,9 +52,9 @@ listed-lines-requires c κs =
     )
 
 returns-2 : tie.Need-returns-2
-returns-2 c = all-written _ _ _ _ 4096 (c .listed-lines .result) refl (c .listed-lines .ensures)
+returns-2 c = all-written _ _ _ _ (c .before .before .listed-lines .result) (c .before .before .listed-lines .ensures)
 
 pub channel-lines-spec : {M : Type 1} → statement M
 channel-lines-spec = tie.close (tie.spec (λ c κs. search needs) returns (λ c. search needs) list-records-requires (λ c. search needs)
     list-records-requires-2 (λ c. search needs) list-records-requires-3 (λ c. search needs) list-records-requires-4 (λ c. search needs)
-    (λ c. search needs) (λ c. search needs) (λ c. search needs) listed-lines-requires returns-2)
+    (λ c. search needs) (λ c. search needs) (λ c. search needs) listed-lines-requires (λ c. search needs) returns-2)

@@ -12,7 +12,8 @@ use Rattle.runs.proofs.line_up.Tie as tie
 returns : tie.Need-returns
 returns c =
     let r = c .refused .ensures in
-    (refused-shown (now (c .before .before .before .before .before .args .input)) refl (c .before .before .if1 .taken) (r .0), (r .1, (omega arith, refl)))
+    let input = now (c .before .before .before .before .before .args .input) in
+    (refused-shown input refl (c .before .before .if1 .taken) (r .0), (r .1, (omega arith, refl)))
 
 returns-2 : tie.Need-returns-2
 returns-2 c =

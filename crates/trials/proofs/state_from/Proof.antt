@@ -6,8 +6,17 @@ use Rattle.trials.proofs.state_from.Tie as tie
 
 pub state-from-spec : {M : Type 1} → statement M
 unfolding stateFrom
-state-from-spec = tie.close (tie.spec (λ c κs. search needs) (λ c κs. search needs) (λ c. search needs) (λ c. search needs) (λ c. search needs)
-    (λ c. search needs) (λ c κs. search needs) (λ c κs. search needs) (λ c κs. search needs) (λ c κs. search needs)
-    (λ c. let h = c .before .before .before in
-    simp (c .holding-from4 .ensures, c .before .holding-from3 .ensures, c .before .before .holding-from2 .ensures, h .holding-from .ensures)
-    (simp (h .before .byte2 .ensures, h .before .before .byte .ensures))))
+state-from-spec = tie.close (tie.spec (λ c κs. search needs) (λ c κs. search needs) (λ c κs. search needs) (λ c. search needs) (λ c. search needs)
+    (λ c. search needs) (λ c. search needs) (λ c κs. search needs) (λ c κs. search needs) (λ c κs. search needs) (λ c κs. search needs)
+    (λ c κs. search needs)
+    (λ c. let h = c .before .before .before .before in
+    let l = h .before in
+    simp (
+      c .holding-from5 .ensures,
+      c .before .holding-from4 .ensures,
+      c .before .before .holding-from3 .ensures,
+      c .before .before .before .holding-from2 .ensures,
+      h .holding-from .ensures,
+      l .language-from .ensures,
+    )
+    (simp (l .before .byte2 .ensures, l .before .before .byte .ensures))))
