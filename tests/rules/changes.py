@@ -29,9 +29,11 @@ COMPARED = {"leb": "ltb", "ltb": "leb"}
 TESTED = {"cond", "unless", "needs"}
 ENDS = {";", ",", "∷", "++", "≡", "→", "in", "&&", "||", "=", "×"}
 NEIGHBOURS = {
-    "Cds": "Mms", "Mms": "Vcm", "Vcm": "Dcm", "Dcm": "Cds", "true": "false", "false": "true", "OtherMap": "Repeat",
+    "Cds": "Mms", "Mms": "Vcm", "Vcm": "Dcm", "Dcm": "Ntt", "Ntt": "Cds", "true": "false", "false": "true", "OtherMap": "Repeat",
     "Repeat": "OtherMap", "Stored": "Live", "Live": "Stored",
 }
+# a table for its neighbour, where the records of a table are spoken of, can be of another type
+TABLES = ("Cds", "Mms", "Vcm", "Dcm", "Ntt")
 # what a change may name; a name that the file has already may be brought in again
 IMPORTS = (
     "use Prim.Native.Nat.{_+_, _-_, _*_, _/_, _%_, _^_}\n"
@@ -39,7 +41,7 @@ IMPORTS = (
     "use lib.Dec.{leb, ltb}\n"
 )
 NEIGHBOUR_IMPORTS = (
-    "use Rattle.rules.specs.declared.Table.the-variants.{Cds, Mms, Vcm, Dcm}\n"
+    "use Rattle.rules.specs.declared.Table.the-variants.{Cds, Mms, Vcm, Dcm, Ntt}\n"
     "use Rattle.rules.specs.declared.Answer.the-variants.{OtherMap, Repeat, Stored, Live}\n"
 )
 

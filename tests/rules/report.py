@@ -3,6 +3,7 @@ import collections
 import pathlib
 import sys
 
+import changes
 import trials
 
 KINDS = {
@@ -97,7 +98,8 @@ def tell(root, found, outcomes, whole):
     alike = {c.key() for c in found if outcomes[c].word == "alike"}
     faults = [f"no fact refuses: {key}" for key in sorted(alike) if key not in reasons]
     # a neighbour can be of another type; any other change gives a definition again, or it was made wrongly
-    faults += [f"no rule, but it should be one: {c.key()}" for c in found if outcomes[c].word == "no-rule" and c.kind not in ("field", "argument")]
+    typed = [c for c in found if c.kind in ("field", "argument") or c.new in changes.TABLES]
+    faults += [f"no rule, but it should be one: {c.key()}" for c in found if outcomes[c].word == "no-rule" and c not in typed]
     faults += [f"the prover gave no answer ({outcomes[c].by}): {c.key()}" for c in found if outcomes[c].word == "no-answer"]
     if whole:
         faults += [f"in alike.txt, and refused or no longer there: {key}" for key in reasons if key not in alike]

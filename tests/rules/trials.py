@@ -18,8 +18,14 @@ ERROR = re.compile(r"^(\S+):(\d+):\d+: error: (.*)$")
 IMPORTED = re.compile(r"\buse Rattle·(?:rules|examples)(?:·specs|·proofs)?\.(specs|proofs)\.(?!declared)(\w+)")
 FOLLOWS = re.compile(r"`[^`]+`: `[^`]+` (?:was not admitted|cannot be unfolded because it was not admitted)")
 SECONDS = 300
-# the parts of HoldingClauses that compute with a whole store, which takes most of its time; HoldingClauses/quick is the file without them
-STORED = ("one", "one-first", "two-tables", "stores", "stores-answer", "stores-state", "touched", "at-once")
+# the parts of a file that compute with a whole store, which takes most of its time; HoldingClauses/quick is the file without them
+STORED = {
+    "HoldingClauses": (
+        "one", "one-first", "two-tables", "stores", "stores-names", "two-languages", "two-languages-state", "stores-answer", "stores-state", "touched",
+        "at-once",
+    ),
+    "LabelledBoxes": ("named", "not-tuned", "bytes", "not-live", "not-there", "sixteen", "tunes-same"),
+}
 
 
 @dataclasses.dataclass
@@ -43,7 +49,7 @@ class Tree:
         own = self.crate / "proofs" / f"{name}.antt"
         file = own if own.is_file() else self.examples / f"{name}.antt"
         text = file.read_text(encoding="utf-8")
-        for part in STORED if quick else ():
+        for part in STORED[name] if quick else ():
             text = re.sub(rf"^  pub {part} :.*\n(?:      .*\n)*", "", text, flags=re.MULTILINE)
             text = re.sub(rf"^      {part} = .*\n", "", text, flags=re.MULTILINE)
         return text

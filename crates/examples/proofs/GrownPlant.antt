@@ -20,6 +20,6 @@ grown-input = refl
 
 pub grown-digital :
     lineup (hex "00 00" ++ flatten grownPlant)
-    ≡ text "lineup=1\nmap=0\nsections=4\nrefused=0\ncds=5\nmms=5\nvcm=5\ndcm=5\nchannels=1\n"
+    ≡ text "lineup=1\nmap=0\nsections=4\nrefused=0\ncds=5\nmms=5\nvcm=5\ndcm=5\nntt=none\nchannels=1\n"
     ++ text "channel=3 kind=digital hidden=0 path=0 khz=63000 program=3 system=2 inner=15 split=0 format=8 symbols=5056941\n"
 grown-digital = grown-input ∙ grown-printed (freshBox 0) plant-grows ∙ sym example-input ∙ printed .digital

@@ -15,14 +15,16 @@ use Rattle.rules.specs.Growth.{empty, kept, added, SameRevision, GrownRevision,
 use Rattle.rules.specs.Growth.{GrownParts, Grown, GrownRun, grown, Told, told, Untouched, OtherProtocol}
 use Rattle.rules.specs.Growth
 use Rattle.rules.specs.declared.Table.{Table}
-use Rattle.rules.specs.declared.Table.the-variants.{Cds, Mms, Vcm, Dcm}
+use Rattle.rules.specs.declared.Table.the-variants.{Cds, Mms, Vcm, Dcm, Ntt}
 use Rattle.rules.specs.declared.Asked.the-variants as Asked
 use Rattle.rules.specs.declared.Signal.the-variants.{Digital}
 use Rattle.rules.proofs.Hex.{hex}
 use Rattle.rules.proofs.Computed.{computed}
 use Rattle.rules.proofs.Truths.{differ, unlike}
 use Rattle.rules.proofs.Examples.{modes, channels, ranges, c1Content, c7Ranges, c12Mode}
-use Rattle.examples.proofs.Plants.{examplePlant, d, p, carriersPlain, parts, channel1, twoRecords}
+use Rattle.examples.proofs.Plants.{examplePlant, d, p, carriersPlain, parts, channel1, twoRecords, namesPlain, namesGrown}
+use Rattle.examples.proofs.HoldingClauses.{eng}
+use Rattle.examples.proofs.NameSections.{name, names}
 use Rattle.examples.proofs.GrowthLimits.{grownList}
 
 -- what a section of version 5, 0 of 0, for map 0 reads as
@@ -211,6 +213,44 @@ included-grow =
                 kept {d = d 0x81 "01"} {e = d 0x81 "FF 01"} (other (λ e. omega (arith, e)) refl)
                 (added (d 0x82 "") (λ e. omega (arith, e))
                 (kept (revision "05 00 00 01 02" (record { long = omega arith; longer = omega arith; version = refl; number = refl; last = refl })) empty));
+          };
+      fits = refl;
+      crc = refl;
+    }
+
+-- names: descriptors into a record's list and into the closing list, another body of one that was there, a longer revision descriptor, other reserved bits
+pub names-grow : Grown namesPlain namesGrown
+unfolding computed
+names-grow =
+    record {
+      content =
+          said Ntt
+          (names eng (name 0 0x1234 (hex "00 01 41") ∷ name 1 0x1234 (hex "40") ∷ []))
+          (d 0x93 "E5 00 00" ∷ []);
+      reads = refl;
+      before =
+          cut 0xC3 0x30 0x20 "00 65 6E 67 06" "02" (p "00 12 34 03 00 01 41" [] ∷ p "80 12 34 01 40" (d 0x80 "01" ∷ []) ∷ [])
+          (d 0x93 "E5 00 00" ∷ []);
+      after =
+          cut 0xC3 0x00 0x2C "00 65 6E 67 06" "02"
+          (p "00 12 34 03 00 01 41" (d 0x93 "" ∷ d 0x80 "AA" ∷ []) ∷ p "80 12 34 01 40" (d 0x82 "" ∷ d 0x80 "FF FE" ∷ []) ∷ [])
+          (d 0x81 "" ∷ d 0x93 "05 00 00 AA BB" ∷ []);
+      was = refl;
+      is = refl;
+      shaped = record { header = refl; head = refl; sized = (refl, λ e. absurd (differ e), (refl, λ e. absurd (differ e), tt)); count = refl };
+      reshaped = record { header = refl; head = refl; sized = (refl, λ e. absurd (differ e), (refl, λ e. absurd (differ e), tt)); count = refl };
+      grows =
+          record {
+            number = refl;
+            zeros = refl;
+            header = refl;
+            head = refl;
+            pieces =
+                next refl (added (d 0x93 "") tt (added (d 0x80 "AA") tt empty))
+                (next refl (added (d 0x82 "") tt (kept refl empty)) end);
+            closing =
+                added (d 0x81 "") (λ e. omega (arith, e))
+                (kept (revision "05 00 00 AA BB" (record { long = omega arith; longer = omega arith; version = refl; number = refl; last = refl })) empty);
           };
       fits = refl;
       crc = refl;

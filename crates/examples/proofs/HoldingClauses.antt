@@ -2,22 +2,26 @@
 use Prim.Native.Nat.{ℕ, _*_}
 use native.Mathlib.Omega.{arith}
 use mathlib.Core.Path.{_≡_, refl}
+use mathlib.Core.Logic.{inl, inr}
 use mathlib.Core.List.{List, [], _∷_, _++_, map}
 use mathlib.Core.Option.{none, some}
 use lib.ListN.{length, replicate}
 use Rattle.rules.specs.Section.{Content, right, wrong}
 use Rattle.rules.specs.Holding.{placeOf, storeSize, sectionAt, put, listed, holdingOf, with, liveAt, gatheredAt, noneLive, noneGathered, freshHolding}
 use Rattle.rules.specs.Holding.{fresh, holds, allOf, liveFormed, gatheredFormed, sameVersion, holdingFormed, stepOf, offeredAs, offered, touches}
-use Rattle.rules.specs.Holding.{takesIn, storeAfter, answerTo, boxAfter, OtherMapped}
+use Rattle.rules.specs.Holding.{takesIn, storeAfter, answerTo, boxAfter, answers, run, sameLanguage, SameLanguage, OtherMapped}
+use Rattle.rules.specs.Lineup.{english}
 use Rattle.rules.specs.declared.Table.{Table}
-use Rattle.rules.specs.declared.Table.the-variants.{Cds, Mms, Vcm, Dcm}
+use Rattle.rules.specs.declared.Table.the-variants.{Cds, Mms, Vcm, Dcm, Ntt}
 use Rattle.rules.specs.declared.LiveVersion.{LiveVersion}
 use Rattle.rules.specs.declared.GatheredVersion.{GatheredVersion}
 use Rattle.rules.specs.declared.Holding.{Holding}
 use Rattle.rules.specs.declared.Revision.{Revision}
+use Rattle.rules.specs.declared.Language.{Language}
 use Rattle.rules.specs.declared.State.{State}
 use Rattle.rules.specs.declared.Answer.the-variants.{Refused, OtherMap, Repeat, Stored, Live}
 use Rattle.rules.proofs.Hex.{hex}
+use Rattle.rules.proofs.Truths.{unlike}
 use Rattle.rules.proofs.Examples.{ranges}
 use Rattle.examples.proofs.Sweeps.{swept, answered, sweep, counting, asNumber}
 use Rattle.rules.proofs.Computed.{computed}
@@ -33,12 +37,16 @@ gathered present version last held = record { present = present; version = versi
 abbrev pub holding : LiveVersion → GatheredVersion → (half : ℕ) → Holding
 holding l g half = record { live = l; gathered = g; half = half }
 
-abbrev pub state : (cds mms vcm dcm : Holding) → State
-state cds mms vcm dcm = record { tables = record { cds = cds; mms = mms; vcm = vcm; dcm = dcm }; settings = record { map = 0x0102 } }
+abbrev pub state : (cds mms vcm dcm ntt : Holding) → State
+state cds mms vcm dcm ntt =
+    record {
+      tables = record { cds = cds; mms = mms; vcm = vcm; dcm = dcm; ntt = ntt };
+      settings = record { map = 0x0102; language = english };
+    }
 
 -- the same of each table
 abbrev pub allTables : Holding → State
-allTables h = state h h h h
+allTables h = state h h h h h
 
 abbrev pub revised : (version number last : ℕ) → Revision
 revised version number last = record { version = version; number = number; last = last }
@@ -60,8 +68,11 @@ third = holding noneLive (gathered 1 4 3 0x05) 1
 abbrev pub fourth : Holding
 fourth = holding noneLive noneGathered 0
 
+abbrev pub fifth : Holding
+fifth = holding (live 1 9 2) (gathered 1 8 1 0x02) 1
+
 abbrev pub mixed : State
-mixed = state first second third fourth
+mixed = state first second third fourth fifth
 
 -- ---- the tests of refusal 2, as numbers
 
@@ -80,9 +91,28 @@ placesOf t =
     placeOf 4 t 0 0 ∷ placeOf 4 t 0 1 ∷ placeOf 4 t 0 2 ∷ placeOf 4 t 0 3
     ∷ placeOf 4 t 1 0 ∷ placeOf 4 t 1 1 ∷ placeOf 4 t 1 2 ∷ placeOf 4 t 1 3 ∷ []
 
--- a section that reads right, for those who look at its table, map and revision alone
+-- a section that reads right, for those who look at its table, map, language and revision alone; and one in English
+abbrev pub spoken : Table → (map : ℕ) → Language → Revision → Content
+spoken t map language r =
+    record {
+      table = t;
+      structure =
+          record {
+            front = record { map = map; language = language; first = 1; count = 0; included = 0; splice = 0; time = 0 };
+            lists = ranges map 1 [] .lists;
+          };
+      closing = [];
+      revision = r;
+    }
+
+abbrev pub speech : (first second third : ℕ) → Language
+speech first second third = record { first = first; second = second; third = third }
+
+abbrev pub eng : Language
+eng = speech 0x65 0x6E 0x67
+
 abbrev pub said : Table → (map : ℕ) → Revision → Content
-said t map r = record { table = t; structure = ranges map 1 []; closing = []; revision = r }
+said t map r = spoken t map eng r
 
 -- a CDS section, 2 of 0 to 3 of version 5; a VCM with splice 1 and the latest activation time, 0 of 0 of version 5, for map 0x0102
 abbrev pub carriersTwo : List ℕ
@@ -91,13 +121,30 @@ carriersTwo = hex "C2 30 0D 00 01 00 01 93 03 E5 02 03 09 6E 4B F4"
 abbrev pub channelsLate : List ℕ
 channelsLate = hex "C4 30 14 00 00 01 02 00 80 FF FF FF FF 00 93 03 E5 00 00 50 DB A8 9B"
 
+-- names: none, in English, 0 and 1 of 0 to 1 of version 6, and the same in French; in English 0 of 0 of version 7
+abbrev pub namesLow : List ℕ
+namesLow = hex "C3 30 0F 00 65 6E 67 06 00 93 03 E6 00 01 3F 6E 62 A9"
+
+abbrev pub namesHigh : List ℕ
+namesHigh = hex "C3 30 0F 00 65 6E 67 06 00 93 03 E6 01 01 ED 77 A3 75"
+
+abbrev pub frenchLow : List ℕ
+frenchLow = hex "C3 30 0F 00 66 72 61 06 00 93 03 E6 00 01 34 5D DF 15"
+
+abbrev pub frenchHigh : List ℕ
+frenchHigh = hex "C3 30 0F 00 66 72 61 06 00 93 03 E6 01 01 E6 44 1E C9"
+
+abbrev pub namesNext : List ℕ
+namesNext = hex "C3 30 0F 00 65 6E 67 06 00 93 03 E7 00 00 3A 77 D3 99"
+
 abbrev pub emptyStore : List ℕ
-emptyStore = replicate 32768 0
+emptyStore = replicate 40960 0
 
 pub record HoldingClauses : Type 0 where
-  -- ---- the store: 32 places of 1,024 bytes, one behind the other
-  pub places : placesOf Cds ++ placesOf Mms ++ placesOf Vcm ++ placesOf Dcm ≡ sweep 32 (λ k. k * 1024)
-  pub size : storeSize 4 ≡ 32768
+  -- ---- the store: 40 places of 1,024 bytes, one behind the other; those of the names begin at 32,768, behind a store of before request 2026-01
+  pub places : placesOf Cds ++ placesOf Mms ++ placesOf Vcm ++ placesOf Dcm ++ placesOf Ntt ≡ sweep 40 (λ k. k * 1024)
+  pub places-names : placesOf Ntt ≡ 32768 ∷ 33792 ∷ 34816 ∷ 35840 ∷ 36864 ∷ 37888 ∷ 38912 ∷ 39936 ∷ []
+  pub size : storeSize 4 ≡ 40960
   -- the section in a place is its first 3 + L bytes, and never more than the place
   pub place-section : sectionAt (hex "C2 30 09 C2 30 02 AA BB CC") 3 ≡ hex "C2 30 02 AA BB"
   pub place-long :
@@ -107,23 +154,33 @@ pub record HoldingClauses : Type 0 where
   pub puts : put (hex "00 01 02 03 04 05") 2 (hex "AA BB CC") ≡ hex "00 01 AA BB CC 05"
   -- ---- the state
   pub starts :
-      fresh 258
+      fresh 258 english
       ≡ allTables (holding (live 0 0 0) (gathered 0 0 0 0) 1)
-  pub of-tables : map (holdingOf mixed) (Cds ∷ Mms ∷ Vcm ∷ Dcm ∷ []) ≡ first ∷ second ∷ third ∷ fourth ∷ []
+  -- with the map number and the language that are given
+  pub starts-settings : fresh 7 (hex "64 65 75") .settings ≡ record { map = 7; language = hex "64 65 75" }
+  pub of-tables : map (holdingOf mixed) (Cds ∷ Mms ∷ Vcm ∷ Dcm ∷ Ntt ∷ []) ≡ first ∷ second ∷ third ∷ fourth ∷ fifth ∷ []
   pub with-table :
-      map (λ t. with mixed t both) (Cds ∷ Mms ∷ Vcm ∷ Dcm ∷ [])
-      ≡ state both second third fourth ∷ state first both third fourth ∷ state first second both fourth ∷ state first second third both ∷ []
+      map (λ t. with mixed t both) (Cds ∷ Mms ∷ Vcm ∷ Dcm ∷ Ntt ∷ [])
+      ≡ state both second third fourth fifth
+      ∷ state first both third fourth fifth
+      ∷ state first second both fourth fifth
+      ∷ state first second third both fifth
+      ∷ state first second third fourth both
+      ∷ []
   -- a list of tables has those that stand in it, at any place
-  pub in-list : map (λ t. asNumber (listed (Mms ∷ Vcm ∷ []) t)) (Cds ∷ Mms ∷ Vcm ∷ Dcm ∷ []) ≡ 0 ∷ 1 ∷ 1 ∷ 0 ∷ []
+  pub in-list : map (λ t. asNumber (listed (Mms ∷ Vcm ∷ []) t)) (Cds ∷ Mms ∷ Vcm ∷ Dcm ∷ Ntt ∷ []) ≡ 0 ∷ 1 ∷ 1 ∷ 0 ∷ 0 ∷ []
   -- the live half is the one set; gathering uses the other, whether anything is live or not
-  pub live-half : map (λ t. liveAt mixed t 1) (Cds ∷ Mms ∷ Vcm ∷ Dcm ∷ []) ≡ 1 * 1024 ∷ 13 * 1024 ∷ 21 * 1024 ∷ 25 * 1024 ∷ []
-  pub gathered-half : map (λ t. gatheredAt mixed t 1) (Cds ∷ Mms ∷ Vcm ∷ Dcm ∷ []) ≡ 5 * 1024 ∷ 9 * 1024 ∷ 17 * 1024 ∷ 29 * 1024 ∷ []
+  pub live-half : map (λ t. liveAt mixed t 1) (Cds ∷ Mms ∷ Vcm ∷ Dcm ∷ Ntt ∷ []) ≡ 1 * 1024 ∷ 13 * 1024 ∷ 21 * 1024 ∷ 25 * 1024 ∷ 37 * 1024 ∷ []
+  pub gathered-half : map (λ t. gatheredAt mixed t 1) (Cds ∷ Mms ∷ Vcm ∷ Dcm ∷ Ntt ∷ []) ≡ 5 * 1024 ∷ 9 * 1024 ∷ 17 * 1024 ∷ 29 * 1024 ∷ 33 * 1024 ∷ []
   -- bit n is section n; all of 0 to last
   pub held-bits : map (λ n. asNumber (holds 0x0A n)) (0 ∷ 1 ∷ 2 ∷ 3 ∷ 4 ∷ []) ≡ 0 ∷ 1 ∷ 0 ∷ 1 ∷ 0 ∷ []
   pub all-held : map allOf (0 ∷ 1 ∷ 2 ∷ 3 ∷ 7 ∷ []) ≡ 1 ∷ 3 ∷ 7 ∷ 15 ∷ 255 ∷ []
-  -- ---- refusal 1, before 2: a store shorter than 32,768 bytes. Where 1 and 2 pass, no section at all is 3
-  pub one : map (λ size. offered (fresh 0) (replicate size 0) [] .answer) (32767 ∷ 32768 ∷ 40000 ∷ []) ≡ Refused 1 ∷ Refused 3 ∷ Refused 3 ∷ []
-  pub one-first : offered (state first second third (holding noneLive noneGathered 2)) (replicate 32767 0) [] .answer ≡ Refused 1
+  -- ---- refusal 1, before 2: a store shorter than 40,960 bytes, also one of 32,768, which was enough before request 2026-01 (readings, T16). Where 1 and 2
+  -- pass, no section at all is 3
+  pub one :
+      map (λ size. offered (fresh 0 english) (replicate size 0) [] .answer) (32768 ∷ 40959 ∷ 40960 ∷ 41000 ∷ [])
+      ≡ Refused 1 ∷ Refused 1 ∷ Refused 3 ∷ Refused 3 ∷ []
+  pub one-first : offered (state first second third fourth (holding noneLive noneGathered 2)) (replicate 40959 0) [] .answer ≡ Refused 1
   -- ---- refusal 2, of what is live: version above 31, last above 3; present is 0 or 1; absent with a field not zero
   pub two-version : answered (λ n. formedLive (live 1 n 0)) 1 256 ≡ counting 0 32
   pub two-last : answered (λ n. formedLive (live 1 0 n)) 1 256 ≡ counting 0 4
@@ -161,27 +218,63 @@ pub record HoldingClauses : Type 0 where
       ∷ with mixed Mms (holding noneLive noneGathered 2)
       ∷ with mixed Vcm (holding noneLive noneGathered 2)
       ∷ with mixed Dcm (holding noneLive noneGathered 2)
+      ∷ with mixed Ntt (holding noneLive noneGathered 2)
       ∷ [])
-      ≡ Refused 3 ∷ Refused 2 ∷ Refused 2 ∷ Refused 2 ∷ Refused 2 ∷ []
-  -- ---- step 1: 0xC4 with another map number, and 0xC2 has none; the state stays
+      ≡ Refused 3 ∷ Refused 2 ∷ Refused 2 ∷ Refused 2 ∷ Refused 2 ∷ Refused 2 ∷ []
+  -- ---- step 1: 0xC4 with another map number, and 0xC2 and 0xC3 have none; the state stays
   pub other-map :
-      map (λ t. offeredAs mixed (right (said t 0x0103 (revised 7 0 1))) .answer) (Cds ∷ Mms ∷ Vcm ∷ Dcm ∷ [])
-      ≡ Stored 1 ∷ Stored 1 ∷ OtherMap ∷ OtherMap ∷ []
+      map (λ t. offeredAs mixed (right (said t 0x0103 (revised 7 0 1))) .answer) (Cds ∷ Mms ∷ Vcm ∷ Dcm ∷ Ntt ∷ [])
+      ≡ Stored 1 ∷ Stored 1 ∷ OtherMap ∷ OtherMap ∷ Stored 1 ∷ []
   pub other-map-state : map (λ t. offeredAs mixed (right (said t 0x0103 (revised 7 0 1))) .state) (Vcm ∷ Dcm ∷ []) ≡ mixed ∷ mixed ∷ []
   pub other-map-before : offeredAs mixed (right (said Vcm 0x0002 (revised 7 0 4))) .answer ≡ OtherMap
   -- and in words
   pub other-mapped : OtherMapped mixed (said Vcm 0x0103 (revised 7 0 1)) × OtherMapped mixed (said Dcm 0x0002 (revised 7 0 1))
+  -- request 2026-01, "another language answers other map": 0xC3 alone has one; the state stays, whatever its last
+  pub other-language :
+      map (λ t. offeredAs mixed (right (spoken t 0x0102 (speech 0x66 0x72 0x61) (revised 7 0 1))) .answer) (Cds ∷ Mms ∷ Vcm ∷ Dcm ∷ Ntt ∷ [])
+      ≡ Stored 1 ∷ Stored 1 ∷ Stored 1 ∷ Stored 1 ∷ OtherMap ∷ []
+  pub other-language-state : offeredAs mixed (right (spoken Ntt 0x0102 (speech 0x66 0x72 0x61) (revised 7 0 1))) .state ≡ mixed
+  pub other-language-before : offeredAs mixed (right (spoken Ntt 0x0102 (speech 0x66 0x72 0x61) (revised 7 0 4))) .answer ≡ OtherMap
+  -- bytes as they are (readings, Q9): "ENG" is another, and so is FF FF FF, the wild card of 003; so is 00 00 00, and what differs in one byte
+  pub languages :
+      map (λ l. offeredAs mixed (right (spoken Ntt 0x0102 l (revised 7 0 1))) .answer)
+      (eng
+      ∷ speech 0x45 0x4E 0x47
+      ∷ speech 0xFF 0xFF 0xFF
+      ∷ speech 0x00 0x00 0x00
+      ∷ speech 0x66 0x6E 0x67
+      ∷ speech 0x65 0x6F 0x67
+      ∷ speech 0x65 0x6E 0x68
+      ∷ [])
+      ≡ Stored 1 ∷ OtherMap ∷ OtherMap ∷ OtherMap ∷ OtherMap ∷ OtherMap ∷ OtherMap ∷ []
+  pub language-bytes :
+      answered (λ b. asNumber (sameLanguage (speech b 0x6E 0x67) english)) 1 256
+      ∷ answered (λ b. asNumber (sameLanguage (speech 0x65 b 0x67) english)) 1 256
+      ∷ answered (λ b. asNumber (sameLanguage (speech 0x65 0x6E b) english)) 1 256
+      ∷ []
+      ≡ (0x65 ∷ []) ∷ (0x6E ∷ []) ∷ (0x67 ∷ []) ∷ []
+  -- it is compared with the one given at the start
+  pub language-given :
+      map (λ l. offeredAs (fresh 0 (hex "66 72 61")) (right (spoken Ntt 0 l (revised 7 0 1))) .answer) (eng ∷ speech 0x66 0x72 0x61 ∷ [])
+      ≡ OtherMap ∷ Stored 1 ∷ []
+  -- and in words
+  pub other-spoken :
+      OtherMapped mixed (spoken Ntt 0x0102 (speech 0x66 0x6E 0x67) (revised 7 0 1))
+      × OtherMapped mixed (spoken Ntt 0x0102 (speech 0x65 0x6F 0x67) (revised 7 0 1))
+      × OtherMapped mixed (spoken Ntt 0x0102 (speech 0x65 0x6E 0x68) (revised 7 0 1))
+  pub same-spoken : SameLanguage eng english
   -- of our map its table's holding moves, and no other
-  pub our-map : map (λ t. offeredAs mixed (right (said t 0x0102 (revised 7 0 0)))) (Cds ∷ Mms ∷ Vcm ∷ Dcm ∷ [])
+  pub our-map : map (λ t. offeredAs mixed (right (said t 0x0102 (revised 7 0 0)))) (Cds ∷ Mms ∷ Vcm ∷ Dcm ∷ Ntt ∷ [])
       ≡ record { answer = Live 7; state = with mixed Cds (holding (live 1 7 0) noneGathered 1) }
       ∷ record { answer = Live 7; state = with mixed Mms (holding (live 1 7 0) noneGathered 0) }
       ∷ record { answer = Live 7; state = with mixed Vcm (holding (live 1 7 0) noneGathered 0) }
       ∷ record { answer = Live 7; state = with mixed Dcm (holding (live 1 7 0) noneGathered 1) }
+      ∷ record { answer = Live 7; state = with mixed Ntt (holding (live 1 7 0) noneGathered 0) }
       ∷ []
   -- each table has its own versions: version 2 is live in the MMS alone
   pub own-versions :
-      map (λ t. offeredAs mixed (right (said t 0x0102 (revised 2 0 1))) .answer) (Cds ∷ Mms ∷ Vcm ∷ Dcm ∷ [])
-      ≡ Stored 1 ∷ Repeat ∷ Stored 1 ∷ Stored 1 ∷ []
+      map (λ t. offeredAs mixed (right (said t 0x0102 (revised 2 0 1))) .answer) (Cds ∷ Mms ∷ Vcm ∷ Dcm ∷ Ntt ∷ [])
+      ≡ Stored 1 ∷ Repeat ∷ Stored 1 ∷ Stored 1 ∷ Stored 1 ∷ []
   pub refused-state : offeredAs mixed (wrong 9) ≡ record { answer = Refused 9; state = mixed }
   -- ---- step 2: last above 3, whatever is live or gathered; step 3 comes behind it
   pub twelve : map (λ last. stepOf 4 both (revised 6 0 last) .answer) (3 ∷ 4 ∷ 255 ∷ []) ≡ Refused 13 ∷ Refused 12 ∷ Refused 12 ∷ []
@@ -231,29 +324,53 @@ pub record HoldingClauses : Type 0 where
   -- ---- the store after an offer
   pub takes : map (λ a. asNumber (takesIn a)) (Refused 5 ∷ OtherMap ∷ Repeat ∷ Stored 1 ∷ Live 5 ∷ []) ≡ 0 ∷ 0 ∷ 0 ∷ 1 ∷ 1 ∷ []
   -- the section stands at the front of its place, section 2 of half 0, and every other byte is as it was
-  pub stores : storeAfter (fresh 0) emptyStore carriersTwo ≡ replicate 2048 0 ++ carriersTwo ++ replicate 30704 0
-  pub stores-refused : storeAfter (fresh 0) (hex "01 02 03") carriersTwo ≡ hex "01 02 03"
-  pub stores-answer : answerTo (record { state = fresh 0; store = emptyStore }) carriersTwo ≡ Stored 3
+  pub stores : storeAfter (fresh 0 english) emptyStore carriersTwo ≡ replicate 2048 0 ++ carriersTwo ++ replicate 38896 0
+  -- a section of names at 32,768, behind the four tables, and these stay; one of another language is put nowhere
+  pub stores-names : storeAfter (fresh 0 english) emptyStore namesLow ≡ replicate 32768 0 ++ namesLow ++ replicate 8174 0
+  pub stores-french : storeAfter (fresh 0 english) (hex "01 02 03") frenchLow ≡ hex "01 02 03"
+  -- two languages in one run: ours is gathered and goes live, and its next version too; the other one is *other map* and changes nothing
+  pub two-languages :
+      answers (record { state = fresh 0 english; store = emptyStore }) (namesLow ∷ frenchLow ∷ frenchHigh ∷ namesLow ∷ namesHigh ∷ frenchHigh ∷ namesNext ∷ [])
+      ≡ Stored 1 ∷ OtherMap ∷ OtherMap ∷ Repeat ∷ Live 6 ∷ OtherMap ∷ Live 7 ∷ []
+  pub two-languages-state :
+      run (record { state = fresh 0 english; store = emptyStore }) (namesLow ∷ frenchLow ∷ frenchHigh ∷ carriersTwo ∷ namesHigh ∷ []) .state
+      ≡ with (with (fresh 0 english) Cds (holding noneLive (gathered 1 5 3 0x04) 1)) Ntt (holding (live 1 6 1) noneGathered 0)
+  pub stores-refused : storeAfter (fresh 0 english) (hex "01 02 03") carriersTwo ≡ hex "01 02 03"
+  pub stores-answer : answerTo (record { state = fresh 0 english; store = emptyStore }) carriersTwo ≡ Stored 3
   pub stores-state :
-      boxAfter (record { state = fresh 0; store = emptyStore }) carriersTwo .state
-      ≡ with (fresh 0) Cds (holding noneLive (gathered 1 5 3 0x04) 1)
-  -- whose table a section touches: none's where it is for another map or does not read right
+      boxAfter (record { state = fresh 0 english; store = emptyStore }) carriersTwo .state
+      ≡ with (fresh 0 english) Cds (holding noneLive (gathered 1 5 3 0x04) 1)
+  -- whose table a section touches: none's where it is for another map or in another language or does not read right
   pub touched :
-      touches (fresh 0) carriersTwo ∷ touches (fresh 0x0102) channelsLate ∷ touches (fresh 0) channelsLate ∷ touches (fresh 0) [] ∷ []
-      ≡ some Cds ∷ some Vcm ∷ none ∷ none ∷ []
+      map (touches (fresh 0 english)) (carriersTwo ∷ channelsLate ∷ namesLow ∷ frenchLow ∷ [] ∷ []) ≡ some Cds ∷ none ∷ some Ntt ∷ none ∷ none ∷ []
+  -- whole sections of names, in English; in "ENG", FF FF FF and 00 00 00; in a language that differs in one byte
+  pub touched-languages :
+      map (touches (fresh 0 english))
+      (hex "C3 30 0F 00 65 6E 67 06 00 93 03 E5 00 00 39 C6 8A 97"
+      ∷ hex "C3 30 0F 00 45 4E 47 06 00 93 03 E5 00 00 08 39 38 9C"
+      ∷ hex "C3 30 0F 00 FF FF FF 06 00 93 03 E5 00 00 50 4A 4A A0"
+      ∷ hex "C3 30 0F 00 00 00 00 06 00 93 03 E5 00 00 CD F1 88 D1"
+      ∷ hex "C3 30 0F 00 66 6E 67 06 00 93 03 E5 00 00 BC B6 77 89"
+      ∷ hex "C3 30 0F 00 65 6F 67 06 00 93 03 E5 00 00 CB C6 20 F1"
+      ∷ hex "C3 30 0F 00 65 6E 68 06 00 93 03 E5 00 00 6B EE 5C 68"
+      ∷ [])
+      ≡ some Ntt ∷ none ∷ none ∷ none ∷ none ∷ none ∷ none ∷ []
+  pub touched-map : touches (fresh 0x0102 english) channelsLate ≡ some Vcm
   -- "Splice and time are not acted on"
-  pub at-once : offered (fresh 0x0102) emptyStore channelsLate .answer ≡ Live 5
+  pub at-once : offered (fresh 0x0102 english) emptyStore channelsLate .answer ≡ Live 5
 
 pub holding-clauses : HoldingClauses
 unfolding computed swept
 holding-clauses =
     record {
       places = refl;
+      places-names = refl;
       size = refl;
       place-section = refl;
       place-long = refl;
       puts = refl;
       starts = refl;
+      starts-settings = refl;
       of-tables = refl;
       with-table = refl;
       in-list = refl;
@@ -281,7 +398,15 @@ holding-clauses =
       other-map = refl;
       other-map-state = refl;
       other-map-before = refl;
-      other-mapped = ((refl, λ e. omega (arith, e)), (refl, λ e. omega (arith, e)));
+      other-mapped = (inl (refl, λ e. omega (arith, e)), inl (refl, λ e. omega (arith, e)));
+      other-language = refl;
+      other-language-state = refl;
+      other-language-before = refl;
+      languages = refl;
+      language-bytes = refl;
+      language-given = refl;
+      other-spoken = (inr (refl, λ l. unlike refl (l .0)), inr (refl, λ l. unlike refl (l .1)), inr (refl, λ l. unlike refl (l .2)));
+      same-spoken = (refl, refl, refl);
       our-map = refl;
       own-versions = refl;
       refused-state = refl;
@@ -307,9 +432,15 @@ holding-clauses =
       beyond = refl;
       takes = refl;
       stores = refl;
+      stores-names = refl;
+      stores-french = refl;
+      two-languages = refl;
+      two-languages-state = refl;
       stores-refused = refl;
       stores-answer = refl;
       stores-state = refl;
       touched = refl;
+      touched-languages = refl;
+      touched-map = refl;
       at-once = refl;
     }

@@ -10,8 +10,13 @@ pub mod TuningClauses  -- from number to tuner; refusals 16 to 21
 pub mod LiveBoxes  -- the same through `tune` of live boxes; 1, 2, 14, 15, 16 in their order
 pub mod PrintClauses  -- text, lines, the cutting of an input
 pub mod SaidClauses  -- the paper's number, word and values for each case of an answer
+pub mod NameTexts  -- request 2026-01: the text rule
+pub mod NameSections  -- a section of names: its fields, and refusals 4 to 11
+pub mod LabelClauses  -- the label of a channel, in its parts; where live records stand
+pub mod LabelledBoxes  -- the same through `labelled` of live boxes; 1, 2 and 14 to 18 in their order
 -- ---- whole outputs
 pub mod Printed  -- the two that the paper prints, and the first and the last channel
+pub mod PrintedLabels  -- what `labels` prints
 -- ---- growth
 pub mod Growths  -- what is growth
 pub mod GrowthLimits  -- what is not

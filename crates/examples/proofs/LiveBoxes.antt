@@ -1,11 +1,12 @@
 -- Document 01, "From number to tuner", through `tune` of live boxes, computed: C2 to C4, a plant with another value in every field, two
 -- sections of one table, and refusals 1, 2, 14, 15 and 16 in their order.
-use Prim.Native.Nat.{ℕ}
+use Prim.Native.Nat.{ℕ, _-_}
 use mathlib.Core.Path.{_≡_, refl}
-use mathlib.Core.List.{List, [], _∷_, map}
-use lib.ListN.{take}
-use Rattle.rules.specs.Holding.{put, noneLive, noneGathered, freshHolding, with}
+use mathlib.Core.List.{List, [], _∷_, _++_, map}
+use lib.ListN.{length, take, replicate}
+use Rattle.rules.specs.Holding.{noneLive, noneGathered, freshHolding, with}
 use Rattle.rules.specs.Tuning.{tune}
+use Rattle.rules.specs.Lineup.{english}
 use Rattle.rules.specs.declared.Table.the-variants.{Cds, Mms, Vcm, Dcm}
 use Rattle.rules.specs.declared.State.{State}
 use Rattle.rules.specs.declared.Tuned.{Tuned}
@@ -17,21 +18,24 @@ use Rattle.examples.proofs.Plants.{plantCds, plantMms, plantVcm, plantD
 use Rattle.examples.proofs.HoldingClauses.{live, holding, emptyStore}
 use Rattle.examples.proofs.TuningClauses.{c12, live5}
 
--- ---- live boxes: each table's sections stand in half 0
+-- ---- live boxes: of each table the bytes of its places, half 0 first, with zeros behind them
 
-abbrev pub storeOf : (cds mms vcm dcm : List ℕ) → List ℕ
-storeOf cds mms vcm dcm = put (put (put (put emptyStore 0 cds) 8192 mms) 16384 vcm) 24576 dcm
+abbrev pub padded : (size : ℕ) → List ℕ → List ℕ
+padded size bs = bs ++ replicate (size - length bs) 0
 
--- the plant with another value in every field, for map 0x0102
+abbrev pub storeOf : (cds mms vcm dcm ntt : List ℕ) → List ℕ
+storeOf cds mms vcm dcm ntt = padded 8192 cds ++ (padded 8192 mms ++ (padded 8192 vcm ++ (padded 8192 dcm ++ padded 8192 ntt)))
+
+-- the plant with another value in every field, for map 0x0102; its names are live and damaged, here as in what follows, and tuning needs none
 abbrev pub plantStore : List ℕ
-plantStore = storeOf plantCds plantMms plantVcm plantDcm
+plantStore = storeOf plantCds plantMms plantVcm plantDcm []
 
 -- the records of C2, C3 and C4 as carriers 2 to 5, for channels 2 to 5 of map 0
 abbrev pub borderState : State
-borderState = record { tables = live5 .tables; settings = record { map = 0 } }
+borderState = record { tables = live5 .tables; settings = record { map = 0; language = english } }
 
 abbrev pub borderStore : List ℕ
-borderStore = storeOf bordersCds bordersMms bordersVcm bordersDcm
+borderStore = storeOf bordersCds bordersMms bordersVcm bordersDcm []
 
 -- two sections of carriers, version 6: carrier 2 at 54,000 kHz in section 0; carrier 2 at 57,000 and carrier 3 at 60,000 in section 1; for
 -- channels 2 and 3 of map 0
@@ -46,12 +50,10 @@ twoState = with borderState Cds (holding (live 1 6 1) noneGathered 0)
 
 abbrev pub twoStore : (section0 section1 : List ℕ) → List ℕ
 twoStore section0 section1 =
-    put
-    (storeOf section0
+    storeOf (padded 1024 section0 ++ section1)
     (hex "C2 30 14 00 01 01 02 2F 08 00 4D 29 AD 00 93 03 E5 00 00 CE 5B B1 EE")
     (hex "C4 30 26 00 00 00 00 00 00 00 00 00 00 02 00 02 00 12 34 02 00 03 01 00 03 00 12 34 03 00 03 01 93 03 E5 00 00 D0 9E 3A 5F")
-    (hex "C4 30 11 00 01 00 00 00 02 01 82 93 03 E5 00 00 56 49 DA C9"))
-    1024 section1
+    (hex "C4 30 11 00 01 00 00 00 02 01 82 93 03 E5 00 00 56 49 DA C9") []
 
 pub record LiveBoxes : Type 0 where
   -- ---- through `tune` of a live box: a plant with another value in every field
@@ -70,7 +72,7 @@ pub record LiveBoxes : Type 0 where
   -- the lowest section first, by its number; a record of a later section is found too, and each counts from its own first index
   pub tunes-lowest : map (tune twoState (twoStore lowCds highCds)) (2 ∷ 3 ∷ []) ≡ Tuned.Digital 0 0 54000 3 c12 ∷ Tuned.Digital 0 0 60000 3 c12 ∷ []
   -- ---- 1, 2, 14, 15, 16, in their order
-  pub order-one : tune (with live5 Dcm (holding noneLive noneGathered 2)) (take 32767 plantStore) 4096 ≡ Tuned.Refused 1
+  pub order-one : tune (with live5 Dcm (holding noneLive noneGathered 2)) (take 40959 plantStore) 4096 ≡ Tuned.Refused 1
   pub order-two : tune (with live5 Dcm (holding noneLive noneGathered 2)) plantStore 4096 ≡ Tuned.Refused 2
   pub order-fourteen : map (tune (with live5 Dcm freshHolding) emptyStore) (4095 ∷ 4096 ∷ []) ≡ Tuned.Refused 15 ∷ Tuned.Refused 14 ∷ []
   -- 15: each of the four tables; before 16

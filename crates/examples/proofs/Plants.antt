@@ -42,6 +42,22 @@ plantVcm =
 abbrev pub plantDcm : List ℕ
 plantDcm = hex "C4 30 13 00 01 01 02 01 22 03 01 83 7F 93 03 E5 00 00 BC C8 E8 15"
 
+-- its names, in English: of number 0x0506 without the flag of an application and of 0x0304 with it; then of channel 0x123, whose name is an effector of a
+-- single byte, a character of 16 bits and again an effector, with two descriptors behind it; of channel 0x124, an application; of channel 0x123 again
+abbrev pub plantNtt : List ℕ
+plantNtt =
+    hex "C3 30 40 00 65 6E 67 06 05 00 05 06 03 00 01 51 00 80 03 04 03 00 01 52 00 00 03 04 06 80 3F 02 4E 2D 9F 02 93 00 80 01 AA"
+    ++ hex "80 05 06 04 00 02 41 42 00 00 03 04 03 00 01 53 00 93 03 E5 00 00 DC D8 FA 69"
+
+-- the names of channel and application 0x1234, and one that they may grow into
+abbrev pub namesPlain : List ℕ
+namesPlain = hex "C3 30 20 00 65 6E 67 06 02 00 12 34 03 00 01 41 00 80 12 34 01 40 01 80 01 01 93 03 E5 00 00 85 CA C3 49"
+
+abbrev pub namesGrown : List ℕ
+namesGrown =
+    hex "C3 00 2C 00 65 6E 67 06 02 00 12 34 03 00 01 41 02 93 00 80 01 AA 80 12 34 01 40 02 82 00 80 02 FF FE"
+    ++ hex "81 00 93 05 05 00 00 AA BB F4 90 F0 3B"
+
 -- a descriptor, and a record with its list
 abbrev pub d : (tag : ℕ) → (body : String) → Descriptor
 d tag body = record { tag = tag; body = hex body }

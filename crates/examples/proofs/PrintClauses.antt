@@ -1,5 +1,5 @@
--- Document 01, "The C side and the printed line-up": every clause of the text and of the cutting of an input, whole or in pieces, computed. (Whole outputs:
--- Printed.antt.)
+-- Document 01, "The C side and the printed line-up": every clause of the text and of the cutting of an input, whole or in pieces, computed; and request 2026-01,
+-- the lines of `labels`. (Whole outputs: Printed.antt, PrintedLabels.antt.)
 use Prim.Native.Nat.{ℕ, _*_, _%_}
 use mathlib.Core.Path.{_≡_, refl}
 use mathlib.Core.Bool.{cond}
@@ -7,7 +7,9 @@ use mathlib.Core.List.{List, [], _∷_, _++_, map}
 use lib.ListN.{replicate}
 use lib.Dec.{eqb}
 use Rattle.rules.specs.Holding.{noneLive, noneGathered, fresh}
-use Rattle.rules.specs.Lineup.{text, decimal, field, line, sectionsOf, freshBox, refusals, version, versionLines, channelLine, channelLines, heading, lineup}
+use Rattle.rules.specs.Lineup.{text, english, decimal, field, line, sectionsOf, freshBox, refusals, version, versionLines, channelLine, channelLines}
+use Rattle.rules.specs.Lineup.{heading, lineup}
+use Rattle.rules.specs.LabelLines.{hexDigit, hexadecimal, labelLine, labelHeading}
 use Rattle.rules.specs.Feeding.{isWhole, wholes, unfinished, lastOf, Intake, begin, feed, feedAll, finish}
 use Rattle.rules.specs.declared.Mode.{Mode}
 use Rattle.rules.specs.declared.State.{State}
@@ -16,10 +18,10 @@ use Rattle.rules.specs.declared.Tuned.{Tuned}
 use Rattle.rules.specs.declared.Tuned.the-variants as Tuned
 use Rattle.rules.proofs.Hex.{hex}
 use Rattle.rules.proofs.Computed.{computed}
-use Rattle.examples.proofs.Sweeps.{asNumber, swept}
+use Rattle.examples.proofs.Sweeps.{asNumber, sweep, swept}
 use Rattle.examples.proofs.HoldingClauses.{live, gathered, holding}
 
--- version 1 of the CDS and version 0 of the MMS live, version 3 of the VCM gathered, nothing of the DCM
+-- version 1 of the CDS and version 0 of the MMS live, version 3 of the VCM gathered, nothing of the DCM; version 4 of the names live
 abbrev pub someLive : State
 someLive =
     record {
@@ -29,8 +31,9 @@ someLive =
             mms = holding (live 1 0 0) (gathered 1 7 1 1) 0;
             vcm = holding noneLive (gathered 1 3 1 1) 1;
             dcm = holding noneLive noneGathered 1;
+            ntt = holding (live 1 4 2) noneGathered 0;
           };
-      settings = record { map = 258 };
+      settings = record { map = 258; language = english };
     }
 
 abbrev pub someMode : Mode
@@ -62,19 +65,28 @@ pub record PrintClauses : Type 0 where
   -- ---- the input: each section takes 3 + L bytes; an unfinished last one is offered as it is
   pub sections : sectionsOf input ≡ hex "C2 00 01 AA" ∷ hex "C4 00 00" ∷ hex "C2 00 05 11" ∷ []
   pub sections-none : sectionsOf [] ≡ []
-  pub starts : freshBox 258 ≡ record { state = fresh 258; store = replicate 32768 0 }
+  pub starts : freshBox 258 ≡ record { state = fresh 258 english; store = replicate 40960 0 }
+  -- in English, the three bytes of "eng" as they are
+  pub in-english : english ≡ hex "65 6E 67"
   -- answers with a number are counted as refused, and no other
   pub counted :
       map (λ a. refusals (a ∷ Answer.Refused 1 ∷ [])) (Answer.Refused 12 ∷ Answer.OtherMap ∷ Answer.Repeat ∷ Answer.Stored 2 ∷ Answer.Live 3 ∷ [])
       ≡ 2 ∷ 1 ∷ 1 ∷ 1 ∷ 1 ∷ []
   -- ---- the lines
-  pub versions : versionLines someLive ≡ text "cds=1\nmms=0\nvcm=none\ndcm=none\n"
+  pub versions : versionLines someLive ≡ text "cds=1\nmms=0\nvcm=none\ndcm=none\nntt=4\n"
   pub versions-other :
       versionLines (record {
-        tables = record { cds = someLive .tables .dcm; mms = someLive .tables .vcm; vcm = someLive .tables .mms; dcm = someLive .tables .cds };
+        tables =
+            record {
+              cds = someLive .tables .dcm;
+              mms = someLive .tables .vcm;
+              vcm = someLive .tables .mms;
+              dcm = someLive .tables .cds;
+              ntt = someLive .tables .dcm;
+            };
         settings = someLive .settings;
       })
-      ≡ text "cds=none\nmms=none\nvcm=0\ndcm=1\n"
+      ≡ text "cds=none\nmms=none\nvcm=0\ndcm=1\nntt=none\n"
   pub no-version : map version (live 0 0 0 ∷ live 1 5 0 ∷ live 2 5 0 ∷ []) ≡ text "none" ∷ text "5" ∷ text "none" ∷ []
   pub headed : heading someLive 11 22 33 ≡ text "lineup=1\nmap=258\nsections=11\nrefused=22\n" ++ versionLines someLive ++ text "channels=33\n"
   pub digital :
@@ -84,12 +96,23 @@ pub record PrintClauses : Type 0 where
   pub application : channelLine 5 (Tuned.Application 1 0 7) ≡ text "channel=5 kind=application hidden=1 path=0 application=7\n" ∷ []
   pub no-line : channelLine 5 (Tuned.Refused 17) ≡ []
   -- ascending, and none behind the last
-  pub ascending : channelLines oddOnes 3 6 ≡ text "channel=7 kind=application hidden=0 path=0 application=14\n" ∷ []
+  pub ascending : channelLines (λ n. channelLine n (oddOnes n)) 3 6 ≡ text "channel=7 kind=application hidden=0 path=0 application=14\n" ∷ []
   pub ascending-all :
-      channelLines oddOnes 3 7
+      channelLines (λ n. channelLine n (oddOnes n)) 3 7
       ≡ text "channel=7 kind=application hidden=0 path=0 application=14\n" ∷ text "channel=9 kind=application hidden=0 path=0 application=18\n" ∷ []
   -- fewer than two bytes
   pub refused : map lineup ([] ∷ hex "00" ∷ []) ≡ text "lineup=refused\n" ∷ text "lineup=refused\n" ∷ []
+  -- ---- request 2026-01, `labels`: two digits a byte, capital letters, a zero byte too; nothing of no bytes
+  pub hex-digits : sweep 16 hexDigit ≡ text "0123456789ABCDEF"
+  pub hexadecimals :
+      map hexadecimal ([] ∷ hex "00" ∷ hex "0F F0 09 90 0A A0" ∷ hex "FF 12 00" ∷ []) ≡ [] ∷ text "00" ∷ text "0FF009900AA0" ∷ text "FF1200" ∷ []
+  -- nothing stands behind `label=` without a name
+  pub label-lines :
+      labelLine 3 (hex "00 01 4C") ∷ labelLine 4095 (hex "9F") ∷ labelLine 0 [] ∷ []
+      ≡ text "channel=3 label=00014C\n" ∷ text "channel=4095 label=9F\n" ∷ text "channel=0 label=\n" ∷ []
+  -- labels=1, map, ntt, channels: the live version of the names, and of no other table
+  pub label-headed : labelHeading someLive 33 ≡ text "labels=1\nmap=258\nntt=4\nchannels=33\n"
+  pub label-headed-none : labelHeading (fresh 7 english) 0 ≡ text "labels=1\nmap=7\nntt=none\nchannels=0\n"
   -- ---- in pieces: what is whole is offered, what is not is kept
   pub whole :
       map (λ bs. asNumber (isWhole bs)) ([] ∷ hex "C2 00" ∷ hex "C2 00 00" ∷ hex "C2 00 01" ∷ hex "C2 00 01 AA" ∷ hex "C2 00 01 AA BB" ∷ [])
@@ -119,6 +142,7 @@ print-clauses =
       sections = refl;
       sections-none = refl;
       starts = refl;
+      in-english = refl;
       counted = refl;
       versions = refl;
       versions-other = refl;
@@ -131,6 +155,11 @@ print-clauses =
       ascending = refl;
       ascending-all = refl;
       refused = refl;
+      hex-digits = refl;
+      hexadecimals = refl;
+      label-lines = refl;
+      label-headed = refl;
+      label-headed-none = refl;
       whole = refl;
       whole-ones = refl;
       not-whole = refl;

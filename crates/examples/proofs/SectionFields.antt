@@ -9,7 +9,7 @@ use Rattle.rules.specs.Descriptors.{Descriptor}
 use Rattle.rules.specs.Layout.{Numbered}
 use Rattle.rules.specs.Tables.{carriersZeros, carriersOf, carrierKhz, modeZeros, modeOf, vcmHeadZeros, vcmHeadOf, transportOf, channelZeros}
 use Rattle.rules.specs.Tables.{channelOf, dcmHeadZeros, dcmHeadOf, rangeOf}
-use Rattle.rules.specs.Form.{form}
+use Rattle.rules.specs.Form.{form, noLanguage}
 use Rattle.rules.specs.Meaning.{Meaning, meant}
 use Rattle.rules.specs.Section.{Structure, Reading, wrong, right, content, withoutCrc, read, readAs, askedOf, partOf, partAt}
 use Rattle.rules.specs.declared.Table.{Table}
@@ -106,17 +106,34 @@ pub record SectionFields : Type 0 where
   -- the header of 0xC4 says the map number, and 0 for each field that it does not have
   pub header-map :
       form Vcm .header .look (hex "00 00 FF FE")
-      ≡ record { map = 0xFFFE; first = 0; count = 0; included = 0; splice = 0; time = 0 }
-  -- ---- what a section means: table, map number, first index or channel, splice, activation time, records
+      ≡ record { map = 0xFFFE; language = noLanguage; first = 0; count = 0; included = 0; splice = 0; time = 0 }
+  pub no-language : noLanguage ≡ record { first = 0; second = 0; third = 0 }
+  -- ---- what a section means: table, map number, language, first index or channel, splice, activation time, records
   pub means-carriers :
       meantBy (behind plantCds)
-      ≡ some (record { table = Cds; map = 0; first = 3; splice = 0; time = 0; lists = carriers 3 plantCarriers .lists })
+      ≡ some (record { table = Cds; map = 0; language = noLanguage; first = 3; splice = 0; time = 0; lists = carriers 3 plantCarriers .lists })
   pub means-channels :
       meantBy (behind plantVcm)
-      ≡ some (record { table = Vcm; map = 0x0102; first = 0; splice = 1; time = 0x12345678; lists = channels 0x0102 1 1 0x12345678 plantChannels .lists })
+      ≡ some (record {
+        table = Vcm;
+        map = 0x0102;
+        language = noLanguage;
+        first = 0;
+        splice = 1;
+        time = 0x12345678;
+        lists = channels 0x0102 1 1 0x12345678 plantChannels .lists;
+      })
   pub means-ranges :
       meantBy (behind plantDcm)
-      ≡ some (record { table = Dcm; map = 0x0102; first = 0x122; splice = 0; time = 0; lists = ranges 0x0102 0x122 plantRanges .lists })
+      ≡ some (record {
+        table = Dcm;
+        map = 0x0102;
+        language = noLanguage;
+        first = 0x122;
+        splice = 0;
+        time = 0;
+        lists = ranges 0x0102 0x122 plantRanges .lists;
+      })
   -- and nothing else: not the revision, nor lists of descriptors and whether they are included, nor L and the reserved bits
   pub means-same :
       meantBy (read (content (hex "C4 30 00 00 00 01 02 00 80 12 34 56 78 01 00 03 00 12 34 02 00 03 01 93 03 E5 00 00")))
@@ -164,16 +181,16 @@ pub record SectionFields : Type 0 where
   pub head-refused : readAs (hex "C2 30 0F") (wrong 3) ≡ Read.Refused 3
   pub head-carriers :
       readAs plantCds (behind plantCds)
-      ≡ Read.Right (record { table = Cds; map = 0; revision = revision5; closing = 19 })
+      ≡ Read.Right (record { table = Cds; map = 0; language = noLanguage; revision = revision5; closing = 19 })
   pub head-modes :
       readAs plantMms (behind plantMms)
-      ≡ Read.Right (record { table = Mms; map = 0; revision = revision5; closing = 21 })
+      ≡ Read.Right (record { table = Mms; map = 0; language = noLanguage; revision = revision5; closing = 21 })
   pub head-channels :
       readAs plantVcm (behind plantVcm)
-      ≡ Read.Right (record { table = Vcm; map = 0x0102; revision = revision5; closing = 46 })
+      ≡ Read.Right (record { table = Vcm; map = 0x0102; language = noLanguage; revision = revision5; closing = 46 })
   pub head-ranges :
       readAs plantDcm (behind plantDcm)
-      ≡ Read.Right (record { table = Dcm; map = 0x0102; revision = revision5; closing = 13 })
+      ≡ Read.Right (record { table = Dcm; map = 0x0102; language = noLanguage; revision = revision5; closing = 13 })
   -- ---- the descriptor question: the body of the first of a tag, behind others, as a part of the section
   pub asked :
       map (λ tag. askedOf tag askedSection (behind askedSection)) (0x93 ∷ 0x80 ∷ 0x81 ∷ 0x82 ∷ [])
@@ -217,6 +234,7 @@ section-fields =
       reads-ranges = refl;
       reads-revision = refl;
       header-map = refl;
+      no-language = refl;
       means-carriers = refl;
       means-channels = refl;
       means-ranges = refl;

@@ -9,7 +9,7 @@ use lib.ListN.{length, replicate}
 use Rattle.rules.specs.Bytes.{refused, got, byte}
 use Rattle.rules.specs.Layout.{Block, extent, taken}
 use Rattle.rules.specs.Tables.{cds}
-use Rattle.rules.specs.Form.{Form, noHead}
+use Rattle.rules.specs.Form.{Form, noHead, noLanguage}
 use Rattle.rules.specs.Section.{headerOf, content, read, checkOf, check}
 use Rattle.rules.specs.declared.Carriers.{Carriers}
 use Rattle.rules.proofs.Hex.{hex}
@@ -35,27 +35,28 @@ textedForm =
             size = 1;
             more = byte 0;
             zeros = λ r. eqb (byte (byte 0 r) r / 128) 0;
-            look = λ r. record { map = 0; first = length r; count = 0; included = 0; splice = 0; time = 0 };
+            look = λ r. record { map = 0; language = noLanguage; first = length r; count = 0; included = 0; splice = 0; time = 0 };
           };
       limits = λ x. true;
       mapped = false;
+      spoken = false;
       Head = Unit {0};
       head = noHead;
       joined = λ x h. x;
       Row = Carriers;
       layout = λ x. cds;
-      says = λ rs. record { carriers = rs; modes = []; channels = []; ranges = [] };
+      says = λ rs. record { carriers = rs; modes = []; channels = []; ranges = []; names = [] };
       rowsIn = λ p. p .carriers;
     }
 
 pub record SectionOrder : Type 0 where
-  -- ---- refusal 3, before 4: a table number of 0xC3 would be 4
+  -- ---- refusal 3, before 4: a table number of 0xC1 would be 4
   -- fewer than 8 bytes; not exactly 3 + L, by one either way
-  pub three-few : map check ([] ∷ hex "C3 33 FF" ∷ hex "C3 30 04 00 00 00 00" ∷ hex "C3 30 05 00 00 00 00 00" ∷ []) ≡ 3 ∷ 3 ∷ 3 ∷ 4 ∷ []
-  pub three-exactly : map check (hex "C3 30 04 00 00 00 00 00" ∷ hex "C3 30 06 00 00 00 00 00" ∷ []) ≡ 3 ∷ 3 ∷ []
+  pub three-few : map check ([] ∷ hex "C1 33 FF" ∷ hex "C1 30 04 00 00 00 00" ∷ hex "C1 30 05 00 00 00 00 00" ∷ []) ≡ 3 ∷ 3 ∷ 3 ∷ 4 ∷ []
+  pub three-exactly : map check (hex "C1 30 04 00 00 00 00 00" ∷ hex "C1 30 06 00 00 00 00 00" ∷ []) ≡ 3 ∷ 3 ∷ []
   -- L is 12 bits, without the four in front of them; 1,021 is the most
-  pub three-bits : map (λ (flags : ℕ). check (0xC3 ∷ flags ∷ 0x05 ∷ replicate 261 0)) (0x01 ∷ 0xF1 ∷ 0x00 ∷ 0x02 ∷ []) ≡ 4 ∷ 4 ∷ 3 ∷ 3 ∷ []
-  pub three-above : check (0xC3 ∷ 0x33 ∷ 0xFD ∷ replicate 1021 0) ∷ check (0xC3 ∷ 0x33 ∷ 0xFE ∷ replicate 1022 0) ∷ [] ≡ 4 ∷ 3 ∷ []
+  pub three-bits : map (λ (flags : ℕ). check (0xC1 ∷ flags ∷ 0x05 ∷ replicate 261 0)) (0x01 ∷ 0xF1 ∷ 0x00 ∷ 0x02 ∷ []) ≡ 4 ∷ 4 ∷ 3 ∷ 3 ∷ []
+  pub three-above : check (0xC1 ∷ 0x33 ∷ 0xFD ∷ replicate 1021 0) ∷ check (0xC1 ∷ 0x33 ∷ 0xFE ∷ replicate 1022 0) ∷ [] ≡ 4 ∷ 3 ∷ []
   -- ---- the order front to back, each thing whole: 8 before 9 before 10, and a later one is not looked at
   -- the header of 0xC2: medium and subtype not there, 9 of byte 1, 9 of byte 3, first index 0 before the first record
   pub order-header :

@@ -81,9 +81,9 @@ rangeByte range = hex "C4 30 12 00 01 00 00 0F 80 02 81" ++ (range ∷ hex "93 0
 pub record SectionRefusals : Type 0 where
   -- ---- whole sections, with their CRC, that read right
   pub right-ones : map check (plantCds ∷ plantMms ∷ plantVcm ∷ plantDcm ∷ askedSection ∷ []) ≡ 0 ∷ 0 ∷ 0 ∷ 0 ∷ 0 ∷ []
-  -- ---- refusal 4, before 5: of all table numbers two pass, and then the CRC is wrong
-  pub four : answered (λ (n : ℕ). check (n ∷ hex "30 05 00 00 00 00 00")) 5 256 ≡ 0xC2 ∷ 0xC4 ∷ []
-  pub four-others : length (answered (λ (n : ℕ). check (n ∷ hex "30 05 00 00 00 00 00")) 4 256) ≡ 254
+  -- ---- refusal 4, before 5: of all table numbers three pass, and then the CRC is wrong
+  pub four : answered (λ (n : ℕ). check (n ∷ hex "30 05 00 00 00 00 00")) 5 256 ≡ 0xC2 ∷ 0xC3 ∷ 0xC4 ∷ []
+  pub four-others : length (answered (λ (n : ℕ). check (n ∷ hex "30 05 00 00 00 00 00")) 4 256) ≡ 253
   -- ---- refusal 5, before 6: another byte in each place of the CRC, and in front of it
   pub five :
       map check

@@ -23,7 +23,7 @@ use Rattle.rules.specs.declared.Tuned.the-variants as Tuned
 use Rattle.rules.proofs.Hex.{hex}
 use Rattle.examples.proofs.Sweeps.{swept, answered, counting, asNumber}
 use Rattle.rules.proofs.Computed.{computed}
-use Rattle.examples.proofs.HoldingClauses.{live, holding, allTables, revised}
+use Rattle.examples.proofs.HoldingClauses.{live, holding, allTables, revised, eng}
 
 -- version 5 with last 0 live in half 0, of each table
 abbrev pub live5 : State
@@ -54,6 +54,7 @@ small channels =
       modes = modeAt 1;
       channels = channels;
       ranges = rangeAt 7 (hex "83");
+      names = [];
     }
 
 -- channel 8, digital, with these references
@@ -68,7 +69,7 @@ eightAnalogue carrier = channelIs (hex "00 08 10 12 34" ++ (carrier ∷ hex "02 
 abbrev pub fits : Table → (n : ℕ) → (table : Table) → (map version number last : ℕ) → ℕ
 fits t n table map version number last =
     let s = with live5 Mms (holding (live 1 5 2) noneGathered 0) in
-    asNumber (isSection s t n table (notOurs s table map) (revised version number last))
+    asNumber (isSection s t n table (notOurs s table map eng) (revised version number last))
 
 pub record TuningClauses : Type 0 where
   -- ---- refusal 16, unless each live place reads right
@@ -101,11 +102,11 @@ pub record TuningClauses : Type 0 where
       ∷ Tuned.Refused 19
       ∷ []
   pub nineteen-zero :
-      lookUp (record { carriers = carriersAt 0 (hex "03 80 30 81 C8"); modes = []; channels = eightAnalogue 0; ranges = rangeAt 7 (hex "83") }) 8
+      lookUp (record { carriers = carriersAt 0 (hex "03 80 30 81 C8"); modes = []; channels = eightAnalogue 0; ranges = rangeAt 7 (hex "83"); names = [] }) 8
       ≡ Tuned.Refused 19
   -- reference 1 is the lowest that there is
   pub nineteen-one :
-      lookUp (record { carriers = carriersAt 1 (hex "01 80 30 81 C8"); modes = []; channels = eightAnalogue 1; ranges = rangeAt 7 (hex "83") }) 8
+      lookUp (record { carriers = carriersAt 1 (hex "01 80 30 81 C8"); modes = []; channels = eightAnalogue 1; ranges = rangeAt 7 (hex "83"); names = [] }) 8
       ≡ Tuned.Analogue 0 0 57000 2 0
   pub nineteen-first : lookUp (small (eight 0 0)) 8 ≡ Tuned.Refused 19
   -- 20: both ends, by one kHz
@@ -113,9 +114,11 @@ pub record TuningClauses : Type 0 where
   -- 21: digital alone, reference 0, also where a record has index 0, and no record
   pub twenty-one : map (λ mode. lookUp (small (eight 3 mode)) 8) (0 ∷ 1 ∷ 2 ∷ []) ≡ Tuned.Refused 21 ∷ Tuned.Digital 0 0 57000 3 c12 ∷ Tuned.Refused 21 ∷ []
   pub twenty-one-zero : map
-      (λ mode. lookUp (record { carriers = small [] .carriers; modes = modeAt 0; channels = eight 3 mode; ranges = small [] .ranges }) 8) (0 ∷ 1 ∷ [])
+      (λ mode. lookUp (record { carriers = small [] .carriers; modes = modeAt 0; channels = eight 3 mode; ranges = small [] .ranges; names = [] }) 8)
+      (0 ∷ 1 ∷ [])
       ≡ Tuned.Refused 21 ∷ Tuned.Refused 21 ∷ []
-  pub twenty-one-lower : lookUp (record { carriers = small [] .carriers; modes = modeAt 2; channels = eight 3 1; ranges = small [] .ranges }) 8
+  pub twenty-one-lower :
+      lookUp (record { carriers = small [] .carriers; modes = modeAt 2; channels = eight 3 1; ranges = small [] .ranges; names = [] }) 8
       ≡ Tuned.Refused 21
   -- an application channel needs no carrier; path of all three kinds, and hidden, which is type 1 alone
   pub kinds :
