@@ -1,7 +1,9 @@
-/* What the programs of tests/receiver and tests/tuner share: a store with the bytes that a trial starts with. */
+/* What the programs of tests/receiver and tests/tuner share: a store with the bytes that a trial starts with, and the
+   bytes of a state: map number (2), five tables of eight each (CDS, MMS, VCM, DCM, NTT), and the language (3). */
 #include "numbers.h"
 
-enum { STATE = 34, MOST_STORE = 65536 };
+enum { TABLES = 5, HOLDING = 8, LANGUAGE_BYTES = 3, STATE = 2 + TABLES * HOLDING + LANGUAGE_BYTES };
+enum { MOST_STORE = 65536 };
 
 static uint8_t store[MOST_STORE];
 

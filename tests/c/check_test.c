@@ -63,6 +63,8 @@ struct example {
 #define MMS(record) "C2 30 00 00 01 01 02 " record " 00 93 03 E5 00 01"
 #define VCM(record) "C4 30 00 00 00 00 00 00 00 00 00 00 00 01 " record " 93 03 E5 00 01"
 #define DCM(first, length, ranges) "C4 30 00 00 01 00 00 " first " " length " " ranges " 93 03 E5 00 01"
+#define NTT(language, subtype, record) "C3 30 00 00 " language " " subtype " 01 " record " 93 03 E5 00 01"
+#define NAME "00 12 34 03 00 01 41 00"
 #define CLOSING(list) "C2 30 00 00 01 00 01 " list
 
 static const struct example examples[] = {
@@ -85,7 +87,14 @@ static const struct example examples[] = {
     {"C11, reserved bits 0", CLOSING("93 03 05 00 01"), 0},
     {"C11, number above last", CLOSING("93 03 E5 02 01"), 11},
     {"C12", MMS("2F 08 00 4D 29 AD"), 0},
-    {"another table number", "C3 30 00 00 01 00 01 93 03 E5 00 01", 4},
+    {"another table number", "C5 30 00 00 01 00 01 93 03 E5 00 01", 4},
+    {"names", NTT("65 6E 67", "06", NAME), 0},
+    {"names of another language", NTT("66 72 61", "06", NAME), 0},
+    {"another subtype of names", NTT("65 6E 67", "05", NAME), 7},
+    {"a zero bit of a name's flag", NTT("65 6E 67", "06", "01 12 34 03 00 01 41 00"), 9},
+    {"an empty name", NTT("65 6E 67", "06", "00 12 34 00 00"), 10},
+    {"a reserved mode", NTT("65 6E 67", "06", "00 12 34 03 07 01 41 00"), 10},
+    {"16-bit characters with an odd length", NTT("65 6E 67", "06", "00 12 34 03 3F 01 41 00"), 10},
     {"another protocol version", "C2 30 00 01 01 00 01 93 03 E5 00 01", 6},
     {"another subtype", "C2 30 00 00 01 00 03 93 03 E5 00 01", 7},
     {"another medium", "C2 30 00 00 01 00 11 93 03 E5 00 01", 7},

@@ -140,7 +140,7 @@ def promised(root, labels, refusing, edits):
     paragraphs = re.split(r"\n\s*\n", promises)
     for crate, label in labels:
         # of code, in the paragraph of one of the crate's functions
-        asked = [text for text in paragraphs if crate in ("rules", "lineup") or text.startswith(f"**`{crate}::")]
+        asked = [text for text in paragraphs if crate in ("rules", "lineup", "labels") or text.startswith(f"**`{crate}::")]
         if not any(f"`{label}`" in text for text in asked):
             fail(f"docs/PROMISES.md does not name {crate}/{label}")
     if not re.search(rf"^{len(labels)} of them, in {len(edits)} edits", promises, re.MULTILINE):

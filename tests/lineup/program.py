@@ -1,6 +1,6 @@
-"""Mofrindi: compares the program `lineup` itself with lineup.py, a start of it for each run.
+"""Mofrindi: compares the programs `lineup` and `labels` themselves with lineup.py and labels.py, a start for each run.
 
-program.py LINEUP [--seed N] [--count N]
+program.py LINEUP LABELS [--seed N] [--count N]
 
 The runs are those of tests/second/generate/runs.py: all long ones, and a part of the others.  Each input comes
 through a pipe, whole or in pieces of any size, so that reads end anywhere.
@@ -17,12 +17,13 @@ sys.dont_write_bytecode = True
 sys.path.insert(0, os.path.join(os.path.dirname(os.path.abspath(__file__)), '..', 'second'))
 
 from arguments import Parser, number_from
+from compare.compare_lineup import TEXTS
 from compare.compare_section import PATIENCE
 from generate import runs
-from program import lineup
+from generate.run_parts import LABELS, LINEUP
 
 LONG = 60000            # bytes; such a run needs more than one read, or nearly
-EVERY = 16              # of the other runs, one in so many
+EVERY = 20              # of the other runs, one in so many
 MOST_PIECES = 40
 
 
@@ -61,27 +62,32 @@ def printed(program, pieces):
     return out, started.wait()
 
 
-def compare(program, seed, count):
-    """The number of runs that differ; says which."""
+def compare(programs, seed, count):
+    """The number of runs that differ; says which.  Programs has one for each text."""
     dice, wrong = random.Random(seed), 0
     batch = chosen(runs.batch(seed, count))
     for run in batch:
-        out, status = printed(program, list(in_pieces(dice, run.data)))
-        if out != lineup.lineup(run.data) or status != 0:
+        out, status = printed(programs[run.text], list(in_pieces(dice, run.data)))
+        if out != TEXTS[run.text](run.data) or status != 0:
             wrong += 1
-            print('difference: %s: %s, %d bytes, exit status %d' % (run.family, run.name, len(run.data), status))
-    print('%d starts of the program, %d of them with %d bytes or more: %d differ'
-          % (len(batch), sum(len(run.data) >= LONG for run in batch), LONG, wrong))
+            print('difference: %s, %s: %s, %d bytes, exit status %d'
+                  % (run.text, run.family, run.name, len(run.data), status))
+    for text in programs:
+        sizes = [len(run.data) for run in batch if run.text == text]
+        print('%d starts of %s, %d of them with %d bytes or more'
+              % (len(sizes), text, sum(size >= LONG for size in sizes), LONG))
+    print('%d differ' % wrong)
     return wrong
 
 
 if __name__ == '__main__':
-    arguments = Parser(description='Compare the program lineup with lineup.py, a start for each run.')
-    arguments.add_argument('program')
+    arguments = Parser(description='Compare lineup and labels with lineup.py and labels.py, a start for each run.')
+    arguments.add_argument('lineup')
+    arguments.add_argument('labels')
     arguments.add_argument('--seed', type=number_from(0), default=1)
-    arguments.add_argument('--count', type=number_from(0), default=800, help='random runs, of which a part is taken')
+    arguments.add_argument('--count', type=number_from(0), default=600, help='random runs, of which a part is taken')
     given = arguments.parse_args()
     try:
-        sys.exit(compare(given.program, given.seed, given.count) != 0)
+        sys.exit(compare({LINEUP: given.lineup, LABELS: given.labels}, given.seed, given.count) != 0)
     except OSError as error:
-        sys.exit('program.py: %s can\'t be started: %s' % (given.program, error.strerror))
+        sys.exit('program.py: %s can\'t be started: %s' % (error.filename, error.strerror))

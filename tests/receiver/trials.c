@@ -1,16 +1,16 @@
 /* Offers the sections of many trials to the receiver, in one run (the archive of crates/trials). Standard input, numbers
-   lowest byte first: for each trial a state of 34 bytes, the length of the store (4 bytes) and a seed for its bytes (1), the
+   lowest byte first: for each trial a state of 45 bytes, the length of the store (4 bytes) and a seed for its bytes (1), the
    number of sections (2), and each section with its length (2) in front. Standard output: for each section the kind of the
    answer, its number and the state after it, and behind a trial's last section the CRC-32 of the whole store. */
 #include "../trials.h"
 
 #include <string.h>
 
-uint64_t trial_start(uint16_t map, uint32_t part);
+uint64_t trial_start(uint16_t map, const uint8_t *language, size_t language_length, uint32_t part);
 uint64_t trial_offer(const uint8_t *state, size_t state_length, uint8_t *store, size_t store_length, const uint8_t *section,
                      size_t section_length, uint32_t part);
 
-enum { MAP, CDS, DCM = CDS + 3, ANSWER, HOLDING = 8 };
+enum { MAP, CDS, NTT = CDS + TABLES - 1, LANGUAGE, ANSWER };
 
 static uint8_t copied_store[MOST_STORE], section[65535];
 static uint32_t crc_table[256];
@@ -31,33 +31,42 @@ static uint32_t crc_of_store(size_t length) {
     return ~crc;
 }
 
-/* "Fresh: nothing live, nothing gathered, and the half set to 1", which is the last of a table's eight bytes. */
+/* "Fresh: nothing live, nothing gathered, and the half set to 1", which is the last of a table's eight bytes. The
+   language goes by the map number; of a short one the bytes that are missing are zero. No part is behind it. */
 static int starts_fresh(void) {
     for (uint32_t map = 0; map < 65536; map++) {
-        if (trial_start((uint16_t)map, MAP) != map)
+        uint8_t language[LANGUAGE_BYTES] = {(uint8_t)map, (uint8_t)(map >> 8), (uint8_t)(map * 7 + 1)};
+        size_t length = map % 5 < LANGUAGE_BYTES ? map % 5 : LANGUAGE_BYTES;
+        if (trial_start((uint16_t)map, language, length, MAP) != map ||
+            trial_start((uint16_t)map, language, length, LANGUAGE) != number(language, (int)length) ||
+            trial_start((uint16_t)map, language, length, ANSWER) != 0)
             return 0;
-        for (uint32_t part = CDS; part <= DCM; part++)
-            if (trial_start((uint16_t)map, part) != (uint64_t)1 << 56)
+        for (uint32_t part = CDS; part <= NTT; part++)
+            if (trial_start((uint16_t)map, language, length, part) != (uint64_t)1 << 56)
                 return 0;
     }
     return 1;
 }
 
+static void put_number(uint8_t *bytes, uint64_t n, int count) {
+    for (int i = 0; i < count; i++)
+        bytes[i] = (uint8_t)(n >> 8 * i);
+}
+
 /* One call gives one part. The state's parts are asked for on copies of the store, the answer on the store itself. */
 static int offer(uint8_t *state, size_t store_length, size_t length) {
     uint64_t parts[ANSWER];
-    for (uint32_t part = MAP; part <= DCM; part++) {
+    for (uint32_t part = MAP; part < ANSWER; part++) {
         memcpy(copied_store, store, store_length);
         parts[part] = trial_offer(state, STATE, copied_store, store_length, section, length, part);
     }
     uint64_t answer = trial_offer(state, STATE, store, store_length, section, length, ANSWER);
-    if (parts[MAP] > 65535 || answer > 65535)
-        return fail("a map number or an answer is above two bytes");
-    for (int i = 0; i < 2; i++)
-        state[i] = (uint8_t)(parts[MAP] >> 8 * i);
-    for (int table = 0; table < 4; table++)
-        for (int i = 0; i < HOLDING; i++)
-            state[2 + HOLDING * table + i] = (uint8_t)(parts[CDS + table] >> 8 * i);
+    if (parts[MAP] > 65535 || answer > 65535 || parts[LANGUAGE] > 0xFFFFFF)
+        return fail("a map number or an answer is above two bytes, or a language above three");
+    put_number(state, parts[MAP], 2);
+    for (int table = 0; table < TABLES; table++)
+        put_number(state + 2 + HOLDING * table, parts[CDS + table], HOLDING);
+    put_number(state + 2 + HOLDING * TABLES, parts[LANGUAGE], LANGUAGE_BYTES);
     write_number(answer, 2);
     for (int i = 0; i < STATE; i++)
         putchar(state[i]);

@@ -18,7 +18,7 @@ def print_histogram(batch, answers, said, wanted):
         sizes[trial.family] += 1
     print('answers:')
     for words in wanted:
-        print('  %-11s %6d' % (words, reached[words]))
+        print('  %-21s %6d' % (words, reached[words]))
     print('families:')
     for family, counts in families.items():
         shown = ', '.join('%s: %d' % (words, counts[words]) for words in wanted if counts[words])

@@ -1,10 +1,11 @@
-"""Mofrindi: compares a program that prints line-ups with lineup.py, over a batch of runs.
+"""Mofrindi: compares a program that prints line-ups and labels with lineup.py and labels.py, over a batch of runs.
 
 compare_lineup.py PROGRAM [--seed N] [--count N] [--parse]
 
-PROGRAM gets all runs on its standard input, each as a length (4 bytes, lowest first) and the bytes that
-`lineup` would get.  For each it writes a length (4 bytes, lowest first) and all that `lineup` prints for it.
-A long batch is cut into chunks, each for a start of PROGRAM of its own.
+PROGRAM gets all runs on its standard input, each as a byte (0 for the text of `lineup`, 1 for that of `labels`),
+a length (4 bytes, lowest first) and the bytes that `lineup` or `labels` would get.  For each it writes a length
+(4 bytes, lowest first) and all that the program prints for it.  A long batch is cut into chunks, each for a start
+of PROGRAM of its own.
 """
 
 import os
@@ -18,11 +19,11 @@ from compare.compare_receiver import said as offer_words
 from compare.compare_section import SHOWN, Failure, command, written
 from compare.compare_tuner import said as channel_words
 from generate import runs
-from generate.run_parts import unmet_claim
-from program import lineup, tuning
+from generate.run_parts import LABELS, LINEUP, unmet_claim
+from program import label, labels, lineup, tuning
 from program.receiver import STORED
 
-COUNT = 800             # random runs; some 5,000 with the directed ones, all in all some seconds
+COUNT = 600             # random runs; some 7,000 with the directed ones, all in all some seconds
 CHUNK = 2000            # random runs given to one start of PROGRAM
 SEED_STEP = 1000003     # so that the chunks of near seeds are not the same
 LENGTH_BYTES = 4
@@ -33,6 +34,10 @@ SHORT = 400             # bytes of an input that is printed
 OFFERS = ['stored', 'live', 'repeat', 'other map'] + ['refused %d' % number for number in range(3, 14)]
 CHANNELS = (['digital', 'analogue', 'application']
             + ['refused %d' % number for number in (15, 17, 18, 19, 20, 21)])
+# Of the channels that `labels` lists: it lends an empty fallback, and what it lists is never refused.
+LABEL_WORDS = ['named source', 'named application', 'no name']
+TEXTS = {LINEUP: lineup.lineup, LABELS: labels.labels}
+PRINTED = {LINEUP: lineup.printed, LABELS: labels.printed}
 
 
 # ------------------------------------------------------------------ the program's side
@@ -70,16 +75,25 @@ def asked_channels(check):
     return sorted(borders.union(lineup.worth_asking(check)))
 
 
+def listed_labels(found):
+    """The label of each channel that `labels` lists, in words."""
+    check = label.checked(found.state, found.store, found.check)
+    for number, answer in lineup.listed(found.check, lineup.worth_asking(found.check)):
+        kind = 'application' if isinstance(answer, tuning.Application) else 'source'
+        found_label = label.ask(check, number)
+        yield {label.Named: 'named ' + kind, label.Fallback: 'no name'}.get(type(found_label), 'refused')
+
+
 def line_at(lines, at):
     return lines[at].decode('ascii', 'backslashreplace') if at < len(lines) else '(no more)'
 
 
-def first_difference(right, got):
+def first_difference(right, got, text=LINEUP):
     """The first line that differs, from both."""
     right, got = right.split(b'\n'), got.split(b'\n')
     at = next(at for at in range(max(len(right), len(got))) if line_at(right, at) != line_at(got, at))
     return ['line %d of the program: %s' % (at + 1, line_at(got, at)),
-            'line %d of lineup.py:   %s' % (at + 1, line_at(right, at))]
+            'line %d of %-13s%s' % (at + 1, text + '.py:', line_at(right, at))]
 
 
 def shown_input(run):
@@ -94,7 +108,7 @@ class Findings:
 
     def __init__(self):
         self.runs = self.bytes = self.differing = self.unmet = 0
-        self.offers, self.channels = Counter(), Counter()
+        self.offers, self.channels, self.labels = Counter(), Counter(), Counter()
         self.families, self.differing_families = Counter(), Counter()
         self.lines = []
 
@@ -105,8 +119,8 @@ class Findings:
     def differs(self, run, right, got):
         self.differing += 1
         self.differing_families[run.family] += 1
-        self.say(['difference: %s: %s' % (run.family, run.name)]
-                 + ['  ' + line for line in first_difference(right, got) + [shown_input(run)]])
+        self.say(['difference: %s, %s: %s' % (run.text, run.family, run.name)]
+                 + ['  ' + line for line in first_difference(right, got, run.text) + [shown_input(run)]])
 
     def claim(self, run, words):
         self.unmet += 1
@@ -118,17 +132,20 @@ class Findings:
 
 
 def right_output(findings, run):
-    """What lineup.py prints for a run; its answers are counted."""
+    """What lineup.py or labels.py prints for a run; its answers are counted."""
     findings.runs += 1
     findings.bytes += len(run.data)
     findings.families[run.family] += 1
     if len(run.data) < lineup.MAP_BYTES:
-        return lineup.lineup(run.data)
+        return TEXTS[run.text](run.data)
     found = lineup.outcome(run.data)
     findings.offers.update(map(stored_words, found.answers))
-    findings.channels.update(channel_words(tuning.ask(found.check, number))
-                             for number in asked_channels(found.check))
-    return lineup.printed(found)
+    if run.text == LABELS:
+        findings.labels.update(listed_labels(found))
+    else:
+        findings.channels.update(channel_words(tuning.ask(found.check, number))
+                                 for number in asked_channels(found.check))
+    return PRINTED[run.text](found)
 
 
 def judge(findings, batch, got):
@@ -139,10 +156,10 @@ def judge(findings, batch, got):
             findings.differs(run, wanted, printed)
         words = unmet_claim(run.claims, wanted)
         if words is not None:
-            findings.claim(run, 'lineup.py: ' + words)
+            findings.claim(run, '%s.py: %s' % (run.text, words))
         if run.twin is None:
             continue
-        for said, own, all_of_them in (('lineup.py', wanted, right), ('the program', printed, got)):
+        for said, own, all_of_them in ((run.text + '.py', wanted, right), ('the program', printed, got)):
             if own != all_of_them[run.twin]:
                 findings.claim(run, '%s prints something else than for the plain twin' % said)
 
@@ -150,7 +167,8 @@ def judge(findings, batch, got):
 def judge_reached(findings):
     """Answers that must be reached and aren't, and answers that can't be."""
     for what, reached, wanted in (('section', findings.offers, OFFERS),
-                                  ('channel', findings.channels, CHANNELS)):
+                                  ('channel', findings.channels, CHANNELS),
+                                  ('label', findings.labels, LABEL_WORDS)):
         for words in wanted:
             if not reached[words]:
                 findings.missing('no %s has the answer %s' % (what, words))
@@ -161,10 +179,11 @@ def judge_reached(findings):
 
 def print_findings(findings):
     for what, reached, wanted in (('offers:', findings.offers, OFFERS),
-                                  ('channels:', findings.channels, CHANNELS)):
+                                  ('channels:', findings.channels, CHANNELS),
+                                  ('labels:', findings.labels, LABEL_WORDS)):
         print(what)
         for words in wanted:
-            print('  %-11s %7d' % (words, reached[words]))
+            print('  %-17s %7d' % (words, reached[words]))
     print('families:')
     for family, size in findings.families.items():
         print('  %-46s %5d' % (family, size))
@@ -197,6 +216,6 @@ def compare(program, seed, count):
 
 if __name__ == '__main__':
     sys.exit(command(compare, COUNT,
-                     'Compare the line-ups that a program prints with those of lineup.py, over a batch of '
-                     'generated runs: the whole input of `lineup`, each.',
+                     'Compare the line-ups and labels that a program prints with those of lineup.py and '
+                     'labels.py, over a batch of generated runs: the whole input of `lineup` or `labels`, each.',
                      'random runs; the directed ones are always all there'))

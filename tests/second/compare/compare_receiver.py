@@ -3,7 +3,7 @@
 compare_receiver.py PROGRAM [--seed N] [--count N] [--parse]
 
 PROGRAM gets all trials on its standard input, as trials.py writes them.  For each section it writes the kind
-of the answer, its value and the 34 bytes of the state after it, and behind a trial's last section the CRC-32
+of the answer, its value and the 45 bytes of the state after it, and behind a trial's last section the CRC-32
 (that of zlib, 4 bytes little-endian) of the whole store.
 """
 
@@ -18,13 +18,13 @@ from compare import batches
 from compare.compare_section import Question, ask, command
 from generate import trials
 from program.receiver import LIVE, ORDER, OTHER_MAP, REFUSED, REPEAT, STORED, offer, read
-from program.section import Refusal
+from program.section import LANGUAGE_BYTES, Refusal
 
 KINDS = (REFUSED, OTHER_MAP, REPEAT, STORED, LIVE)      # their bytes are 0 to 4
-STATE_BYTES = 2 + 8 * len(ORDER)
+STATE_BYTES = 2 + 8 * len(ORDER) + LANGUAGE_BYTES
 STEP_BYTES = 2 + STATE_BYTES
 CRC_BYTES = 4
-COUNT = 2000            # random trials; all in all some seconds with the directed ones
+COUNT = 1000            # random trials; all in all some seconds with the directed ones
 
 # What the batch must reach; a version of its own is nothing special for live.
 WANTED = (['refused %d' % number for number in range(1, 14)] + ['other map', 'repeat']
@@ -58,12 +58,12 @@ def shown_answer(data):
 
 
 def shown_state(data):
-    """The map number, then for each table live present/version/last, gathered with held, half."""
+    """The map number, for each table live present/version/last, gathered with held, half, and the language."""
     shown = ['map %d' % int.from_bytes(data[:2], 'little')]
     for at, name in enumerate(ORDER):
         table = tuple(data[2 + 8 * at:10 + 8 * at])
         shown.append('%s %d/%d/%d %d/%d/%d/0x%02X half %d' % ((name,) + table))
-    return ', '.join(shown)
+    return ', '.join(shown + ['language %s' % data[-LANGUAGE_BYTES:]])
 
 
 def shown_section(section):
@@ -73,6 +73,7 @@ def shown_section(section):
     else:
         what = '%s %d/%d/%d' % (content.table, content.version, content.number, content.last)
         what += '' if content.map_number is None else ', map %d' % content.map_number
+        what += '' if content.language is None else ', language %s' % content.language
     start = section[:40].hex() + ('...' if len(section) > 40 else '')
     return '%s, %d bytes %s' % (what, len(section), start)
 

@@ -1,9 +1,9 @@
-"""Mofrindi: captures for `lineup`, each with the output that lineup.py prints for it.
+"""Mofrindi: captures for `lineup` and `labels`, each with the outputs that lineup.py and labels.py print for it.
 
 captures.py [--check] DIR
 
-Writes NAME.capture and NAME.lineup into DIR, always the same bytes; with --check it only says which of them
-are missing or different.
+Writes NAME.capture, NAME.lineup and NAME.labels into DIR, always the same bytes; with --check it only says which
+of them are missing or different.
 """
 
 import os
@@ -16,13 +16,15 @@ from arguments import Parser
 from generate.directed_runs import long_filler, plant_sections
 from generate.growth import WAYS, grown_section
 from generate.pieces import Dice, descriptor, reseal, revision, seal
-from generate.plants import Body, analogue, application, by125, carriers, digital, mode, padded, spans
+from generate.plants import (Body, analogue, application, by125, carriers, digital, mode, name_of, padded,
+                             section_of_body, spans)
 from generate.run_parts import mixed, run_input
+from generate.texts import ENGLISH, OTHER_LANGUAGES, WRONG, block, plain as text, sixteen_bit, wrong_text
 from generate.trials import shuffled
+from program.labels import labels
 from program.lineup import lineup
-from program.receiver import ORDER
-from program.section import CDS, DCM, MMS, VCM
-from program.tuning import ModeRecord
+from program.section import CDS, DCM, MMS, NTT, VCM
+from program.tuning import NEEDED, ModeRecord
 
 QAM_64 = ModeRecord(2, 15, 0, 8, 5056941)       # C12 of document 01
 QAM_256 = ModeRecord(2, 15, 0, 16, 5360537)
@@ -105,7 +107,7 @@ def full():
     dice = Dice(65)
     sections = plant_sections(dice, full_bodies(dice), 12, FULL_MAP)
     sections[VCM] = [each if len(each) > WHOLE - 8 else padded(each, WHOLE - 2) for each in sections[VCM]]
-    once = mixed(dice, [shuffled(dice, sections[name]) for name in ORDER])
+    once = mixed(dice, [shuffled(dice, sections[name]) for name in NEEDED])
     again = [dice.one(once) for _ in range(6)]
     return run_input(FULL_MAP, once[:7] + again[:3] + once[7:] + again[3:] + shuffled(dice, once))
 
@@ -132,7 +134,7 @@ def plain_sections():
     older = plant_sections(dice, plain_bodies(dice), 2, PLAIN_MAP)
     newer = plant_sections(dice, plain_bodies(dice), 4, PLAIN_MAP)
     foreign = plant_sections(dice, plain_bodies(dice), 3, PLAIN_MAP + 1)
-    lists = [older[name][1:] + shuffled(dice, plant[name]) + newer[name][:1] + plant[name] for name in ORDER]
+    lists = [older[name][1:] + shuffled(dice, plant[name]) + newer[name][:1] + plant[name] for name in NEEDED]
     return mixed(dice, lists + [foreign[VCM] + foreign[DCM]])
 
 
@@ -175,7 +177,7 @@ def damaged():
     """A plant with damaged sections and garbage in between; the last one is unfinished."""
     dice = Dice(68)
     plant = plant_sections(dice, plain_bodies(dice), 3, PLAIN_MAP)
-    good = [section for name in ORDER for section in shuffled(dice, plant[name])]
+    good = [section for name in NEEDED for section in shuffled(dice, plant[name])]
     bad = [each for section in (plant[CDS][0], plant[MMS][0], plant[VCM][1], plant[DCM][0])
            for each in damages(dice, section)]
     bad += [long_filler(0), long_filler(1, 0xFF), long_filler(1022, 0xC4), long_filler(4095, 0x93)]
@@ -185,18 +187,109 @@ def damaged():
     return run_input(PLAIN_MAP, sections + [unfinished[:-9]])
 
 
+# ------------------------------------------------------------------------ names
+
+NAMES_MAP = 0x3003
+FRENCH = b'fra'
+NAMED_VERSION = 6
+RUSSIAN = '\u041a\u0430\u043d\u0430\u043b %d'
+
+
+def name_text(language, number):
+    """The name of a channel: mostly plain, with effectors, with 16 bits, and with all kinds of blocks."""
+    if language == FRENCH:
+        return text('Cha\xeene %d' % number)
+    if number % 9 == 4:
+        return b'\x87' + text('Bold %d' % number) + b'\x88'
+    if number % 9 == 6:
+        return sixteen_bit(RUSSIAN % number)
+    if number % 9 == 8:
+        return text('Both ') + sixteen_bit(RUSSIAN % number) + b'\x80' + block(0xA1, b'\x01') + block(4, b'') + b'\x9F'
+    return text('Channel %d' % number)
+
+
+def name_records(language, numbers):
+    """Names for the channels of full_channel(): none for one of eleven, and twice for some, the first one right."""
+    for number in numbers:
+        flag, source = (1, 0x4000 + number) if number % 20 == 7 else (0, 0x1000 + number)
+        if number % 11 == 3:
+            # Only the other flag has a name under this number.
+            yield name_of(1 - flag, source, text('Nobody'))
+            continue
+        yield name_of(flag, source, name_text(language, number))
+        if number % 8 == 0:
+            yield name_of(flag, source, text('Too late %d' % number))
+
+
+def name_sections(dice, language, version, parts):
+    """So many sections of names for the channels of plain_bodies(), in their order."""
+    records = list(name_records(language, range(2, 2 + PLAIN_CHANNELS)))
+    size = -(-len(records) // parts)
+    return [section_of_body(dice, NTT, NAMES_MAP, Body(0, records[number * size:(number + 1) * size]), version, number,
+                            parts - 1, language) for number in range(parts)]
+
+
+def named_plant(dice):
+    plant = plant_sections(dice, plain_bodies(dice), NAMED_VERSION, NAMES_MAP)
+    return [shuffled(dice, plant[name]) for name in NEEDED]
+
+
+def names():
+    """A plant with names in two languages; the names of an older and of a newer version are never complete."""
+    dice = Dice(69)
+    english = name_sections(dice, ENGLISH, NAMED_VERSION, 4)
+    french = name_sections(dice, FRENCH, NAMED_VERSION, 3) + name_sections(dice, FRENCH, 9, 3)
+    older, newer = name_sections(dice, ENGLISH, 5, 3)[1:], name_sections(dice, ENGLISH, 7, 4)[:2]
+    return run_input(NAMES_MAP, mixed(dice, named_plant(dice) + [
+        older + shuffled(dice, english) + english + newer, shuffled(dice, french)]))
+
+
+def bad_names(dice, version):
+    """Sections of names that all are refused, or are in another language; what follows is cut right."""
+    good = name_sections(dice, ENGLISH, version, 4)
+    for how in sorted(WRONG):
+        wrong = Body(0, [name_of(0, 0x1002, text('Right')), name_of(0, 0x1003, wrong_text(dice, how))])
+        yield section_of_body(dice, NTT, NAMES_MAP, wrong, version, 0, 0)
+    for section in good[:2]:
+        yield from damages(dice, section)
+    yield reseal(good[0][:7] + b'\x07' + good[0][8:])
+    yield reseal(good[0][:9] + b'\x01' + good[0][10:])
+    yield seal(0xC3, good[0][3:8])
+    yield section_of_body(dice, NTT, NAMES_MAP, Body(0, []), version, 0, 4)
+    for language in OTHER_LANGUAGES:
+        yield from name_sections(dice, language, version, 4)[:1]
+    # The last one never comes.
+    yield from good[1:]
+
+
+def badnames():
+    """A plant whose names were good once; the next version has damaged ones and bad text, and never goes live."""
+    dice = Dice(70)
+    good = name_sections(dice, ENGLISH, NAMED_VERSION, 4)
+    bad = shuffled(dice, list(bad_names(dice, NAMED_VERSION + 1)))
+    return run_input(NAMES_MAP, mixed(dice, named_plant(dice) + [good + bad]))
+
+
+def unnamed():
+    """The same with no good names at all."""
+    dice = Dice(71)
+    return run_input(NAMES_MAP, mixed(dice, named_plant(dice) + [shuffled(dice, list(bad_names(dice, 4)))]))
+
+
 # ------------------------------------------------------------------------ the files
 
 CAPTURES = {'empty': lambda: b'\0\0', 'short': lambda: b'\0', 'example': example, 'full': full,
-            'plain': plain, 'grown': grown, 'damaged': damaged}
+            'plain': plain, 'grown': grown, 'damaged': damaged, 'names': names, 'badnames': badnames,
+            'unnamed': unnamed}
 
 
 def files():
-    """(name of a file, its bytes): the input and the output of every capture."""
+    """(name of a file, its bytes): the input and the outputs of every capture."""
     for name, make in CAPTURES.items():
         data = make()
         yield name + '.capture', data
         yield name + '.lineup', lineup(data)
+        yield name + '.labels', labels(data)
 
 
 def write(directory):
@@ -222,7 +315,7 @@ def check(directory):
 
 
 def main():
-    parser = Parser(description='Write captures for lineup, each with what lineup.py prints for it.',
+    parser = Parser(description='Write captures for lineup and labels, each with what lineup.py and labels.py print.',
                     epilog='Exit: 0 all well, 1 a file is missing or differs, 2 a bad argument.')
     parser.add_argument('directory', metavar='DIR', help='where the captures are')
     parser.add_argument('--check', action='store_true', help='only say which files are missing or different')

@@ -6,40 +6,45 @@ The answers are claimed, save where damage behind a right CRC may leave a sectio
 import itertools
 
 from generate.drafts import break_anything, break_revision, hurt_value, hurt_zero, make, runs_in
-from generate.pieces import reseal, revision, seal, two
-from generate.plants import (EMPTY, FIRST_CHANNEL, MAP, SECTIONS, STANDARD, Asked, all_refused, asks, build, listed,
-                             live_tables, padded, section_of_body, shifted_plant, standard, standard_answer,
-                             standard_asks, standard_body, trial)
-from generate.trials import BOTH, FIELDS, INSIDE, MOST_STORE, OUTSIDE, changed, next_name, with_table
-from program.receiver import (FRESH, NO_GATHERED, NO_LIVE, ORDER, PLACE_BYTES, STORE_BYTES, Live, State, Table,
-                              place_start)
-from program.section import CDS, DCM, VCM, Refusal
+from generate.pieces import reseal, revision, seal
+from generate.plants import (EMPTY, FIRST_CHANNEL, FIVE, MAP, SECTIONS, STANDARD, Asked, all_refused, asks, build,
+                             listed, live_tables, padded, section_of_body, shifted_plant, standard, standard_answer,
+                             standard_asks, standard_body, standard_labels, trial)
+from generate.texts import ENGLISH, another_language
+from generate.trials import BOTH, FIELDS, INSIDE, MOST_STORE, OUTSIDE, changed, next_name, set_owner, with_table
+from program.receiver import NO_GATHERED, NO_LIVE, ORDER, PLACE_BYTES, STORE_BYTES, Live, Table, fresh, place_start
+from program.section import CDS, DCM, NTT, VCM, Refusal
+from program.tuning import NEEDED
 
 TOO_HIGH = (4096, 4096 + FIRST_CHANNEL, 8191, 32768 + FIRST_CHANNEL, 65535)
 
 # --------------------------------------------------------------------- refusal 15
 
 def not_live(dice):
-    """Each choice of tables that aren't live, with and without a version gathered; 14 goes before 15."""
-    for lives in itertools.product((False, True), repeat=4):
+    """Each choice of tables that aren't live, with and without a version gathered; 14 goes before 15.
+
+    Names are live in one half of the trials, which doesn't matter.
+    """
+    for lives in itertools.product((False, True), repeat=len(NEEDED)):
         if all(lives):
             continue
         for kind in range(4):
-            whole = standard()
+            whole = standard((SECTIONS,) * (4 + kind % 2))
             tables = live_tables(dice, whole)
             built = build(dice, whole, tables, other=standard() if kind == 3 else None)
             state = built.state
-            for name, is_live in zip(ORDER, lives):
+            for name, is_live in zip(NEEDED, lives):
                 if not is_live:
                     gathering = tables[name].gathered if kind else NO_GATHERED
                     state = with_table(state, name, tables[name]._replace(live=NO_LIVE, gathered=gathering))
-            said = ' '.join(name for name, is_live in zip(ORDER, lives) if not is_live)
+            said = ' '.join(name for name, is_live in zip(NEEDED, lives) if not is_live)
             # A broken place of a table that is live: 15 goes before 16.
             more = [(place_start(CDS, tables[CDS].half, 0), bytes(8))] if kind == 2 else []
-            yield trial(dice, 'not live', said, built._replace(state=state),
-                        all_refused(15, (10, 11, 12, 13, 0, 4095) + TOO_HIGH), more=more)
-    yield trial(dice, 'not live', 'fresh', build(dice, standard())._replace(
-        state=State(MAP, (FRESH,) * 4)), all_refused(15, (0, 10, 4095, 4096, 65535)))
+            refused = all_refused(15, (10, 11, 12, 13, 0, 4095) + TOO_HIGH)
+            yield trial(dice, 'not live', said, built._replace(state=state), refused, more=more,
+                        labels=refused[kind::4])
+    yield trial(dice, 'not live', 'fresh', build(dice, standard())._replace(state=fresh(MAP, ENGLISH)),
+                all_refused(15, (0, 10, 4095, 4096, 65535)))
 
 
 # --------------------------------------------------------------------- refusal 16
@@ -52,14 +57,15 @@ def flipped(section, bit):
 
 def damages(dice, built, name, number):
     """(what, bytes for the front of the place): none of them reads right as what is live there."""
-    section = built.sections[name, number]
+    section, language = built.sections[name, number], built.state.language
     table = built.state.tables[ORDER.index(name)]
     version, last, map_number = table.live.version, table.live.last, built.state.map_number
     body = standard_body(name, number)
 
-    def with_revision(table_name=name, map_number=map_number, version=version, number=number, last=last):
+    def with_revision(table_name=name, map_number=map_number, version=version, number=number, last=last,
+                      language=language):
         content = body if table_name == name else standard_body(table_name, number)
-        return section_of_body(dice, table_name, map_number, content, version, number, last)
+        return section_of_body(dice, table_name, map_number, content, version, number, last, language)
 
     for _ in range(3):
         yield 'one bit', flipped(section, dice.below(8 * len(section)))
@@ -72,6 +78,9 @@ def damages(dice, built, name, number):
         for bit in (0, 7, 8, 15, dice.below(16)):
             yield 'another map', with_revision(map_number=map_number ^ 1 << bit)
         yield 'the map turned round', with_revision(map_number=0x3412)
+    if name == NTT:
+        for _ in range(4):
+            yield 'another language', with_revision(language=another_language(dice, language))
     for bit in range(5):
         yield 'another version', with_revision(version=version ^ 1 << bit)
     if table.gathered.present:
@@ -103,7 +112,8 @@ def damages(dice, built, name, number):
     yield 'protocol version 1', reseal(section[:3] + b'\x01' + section[4:])
     yield 'a zero bit of byte 1', reseal(section[:1] + bytes([section[1] | 0x40]) + section[2:])
     yield 'a zero bit of byte 3', reseal(section[:3] + b'\x20' + section[4:])
-    yield 'table 0xC3', reseal(b'\xC3' + section[1:])
+    yield 'another table', reseal(bytes([dice.one([each for each in range(0xC0, 0xC8) if each != section[0]])])
+                                  + section[1:])
 
 
 def over_the_place(section):
@@ -114,10 +124,10 @@ def over_the_place(section):
 
 def damaged(dice):
     """Every live place of every table with either half live, damaged; other tables stay as they are."""
-    for name, which, count in itertools.product(ORDER, (0, 1), range(1, SECTIONS + 1)):
-        counts = [count if each == name else SECTIONS for each in ORDER]
+    for name, which, count in itertools.product(NEEDED, (0, 1), range(1, SECTIONS + 1)):
+        counts = [count if each == name else SECTIONS for each in NEEDED]
         whole = standard(counts)
-        which_halves = [which if each == name else None for each in ORDER]
+        which_halves = [which if each == name else None for each in NEEDED]
         built = build(dice, whole, live_tables(dice, whole, which_halves), other=standard() if which else None)
         for number in range(count):
             start = place_start(name, which, number)
@@ -132,7 +142,7 @@ def damaged(dice):
 
 def every_bit(dice):
     """Every bit of a live section turned over: as it is always 16, with the CRC put right perhaps not."""
-    for name in ORDER:
+    for name in NEEDED:
         whole = listed(dice, standard())
         built = build(dice, whole)
         number = dice.below(SECTIONS)
@@ -152,42 +162,46 @@ def every_bit(dice):
 HURTS = {'zero bit': hurt_zero, 'value': hurt_value, 'cut': runs_in}
 
 
-def draft_for(dice, name, number, live, map_number):
-    draft = make(dice, name)
+def draft_for(dice, name, number, state):
+    """A section that reads right as what is live there."""
+    draft, live = make(dice, name), state.tables[ORDER.index(name)].live
     draft.data('revision')[2:5] = bytes([dice.below(8) << 5 | live.version, number, live.last])
-    if name in (VCM, DCM):
-        draft.data('header')[2:4] = two(map_number)
+    set_owner(draft, state.map_number, state.language)
     return draft
+
+
+def hurt_section(dice, name, number, state, how):
+    """A section for a live place, its CRC right, hurt in one of the ways of HURTS, in its revision, or anyhow."""
+    draft = draft_for(dice, name, number, state)
+    if how in HURTS:
+        kinds = ('record', 'range') if how == 'value' else ('record', 'head', 'header')
+        if how == 'zero bit' and name == DCM:
+            kinds = ('head', 'header')
+        HURTS[how](dice, draft, dice.one(draft.places(*kinds)))
+    elif how == 'revision':
+        break_revision(dice, draft)
+    else:
+        break_anything(dice, draft)
+    return seal(draft.number, draft.rest() or b'\0', draft.top)
 
 
 def wrong_behind_crc(dice):
     """Sections of the right table, map, version, number and last that read wrong behind a right CRC."""
-    for name, how, _ in itertools.product(ORDER, list(HURTS) + ['revision', 'anything'], range(12)):
+    for name, how, _ in itertools.product(NEEDED, list(HURTS) + ['revision', 'anything'], range(12)):
         built = build(dice, standard())
-        table = built.state.tables[ORDER.index(name)]
         number = dice.below(SECTIONS)
-        draft = draft_for(dice, name, number, table.live, built.state.map_number)
-        if how in HURTS:
-            kinds = ('record', 'range') if how == 'value' else ('record', 'head', 'header')
-            if how == 'zero bit' and name == DCM:
-                kinds = ('head', 'header')
-            HURTS[how](dice, draft, dice.one(draft.places(*kinds)))
-        elif how == 'revision':
-            break_revision(dice, draft)
-        else:
-            break_anything(dice, draft)
-        section = seal(draft.number, draft.rest() or b'\0', draft.top)
+        section = hurt_section(dice, name, number, built.state, how)
         claim = None if how == 'anything' else Refusal(16)
         asked = [Asked(channel, claim) for channel in (10 + 4 * number, 11 + 4 * number, 12, 13)]
         yield trial(dice, 'wrong behind the CRC', '%s, %s %d' % (how, name, number), built, asked,
-                    more=[(place_start(name, table.half, number), section)])
+                    more=[(place_start(name, built.state.tables[ORDER.index(name)].half, number), section)])
 
 
 # --------------------------------------------------------------- what must not matter
 
 def other_contents(dice):
     """Another section that reads right as what is live: its records count, whatever stood there before."""
-    for name, number in itertools.product(ORDER, range(SECTIONS)):
+    for name, number in itertools.product(NEEDED, range(SECTIONS)):
         built = build(dice, standard(), other=standard())
         table = built.state.tables[ORDER.index(name)]
         section = section_of_body(dice, name, MAP, EMPTY[name], table.live.version, number, table.live.last)
@@ -234,24 +248,25 @@ def no_matter(dice):
 
 def store_lengths(dice):
     """1 goes before all else; what lies inside a short store is as it should be."""
-    for length in (0, 1, 2, 1024, 8192, 16384, 31744, 32000, 32766, 32767):
+    for length in (0, 1, 2, 1024, 8192, 31744, 32767, 32768, 32769, 40000, 40958, 40959):
         for which in (0, 1):
-            whole = standard((1, 1, 1, 1) if which == 0 else (4, 4, 4, 4))
-            built = build(dice, whole, live_tables(dice, whole, (which,) * 4))
+            whole = standard((1,) * 5 if which == 0 else FIVE)
+            built = build(dice, whole, live_tables(dice, whole, (which,) * 5))
             numbers = (0, 10, 11, 12, 13, 4095) + TOO_HIGH
             yield trial(dice, 'store length', '%d bytes' % length, built, all_refused(1, numbers), length)
             bad = with_table(built.state, CDS, BOTH._replace(half=2))
             yield trial(dice, 'store length', '%d bytes, 1 before 2' % length, built._replace(state=bad),
                         all_refused(1, numbers), length)
-            fresh = built._replace(state=State(MAP, (FRESH,) * 4))
-            yield trial(dice, 'store length', '%d bytes, 1 before 15' % length, fresh, all_refused(1, numbers),
+            nothing = built._replace(state=fresh(MAP, ENGLISH))
+            yield trial(dice, 'store length', '%d bytes, 1 before 15' % length, nothing, all_refused(1, numbers),
                         length)
-    for length in (32768, 32769, 33792, 40000, 65535, 65536):
+    for length in (40960, 40961, 41984, 50000, 65535, 65536):
         for which in (0, 1):
-            whole = standard()
-            built = build(dice, whole, live_tables(dice, whole, (which,) * 4), other=shifted_plant())
-            yield trial(dice, 'store length', '%d bytes' % length, built,
-                        standard_asks() + all_refused(14, TOO_HIGH), length)
+            whole = standard(FIVE)
+            built = build(dice, whole, live_tables(dice, whole, (which,) * 5), other=shifted_plant())
+            too_high = all_refused(14, TOO_HIGH)
+            yield trial(dice, 'store length', '%d bytes' % length, built, standard_asks() + too_high, length,
+                        labels=standard_labels() + too_high)
 
 
 def fitted(dice, name, table):
@@ -262,14 +277,18 @@ def fitted(dice, name, table):
 
 
 def states_inside(dice):
-    """Just inside refusal 2: the live table answers, or 15."""
+    """Just inside refusal 2: the live table answers, or 15; where it is the names, the fallback is the label."""
     for name in ORDER:
         for said, table in INSIDE:
             built, counts = fitted(dice, name, table)
             numbers = (10, 14, 12, 13)
-            asked = standard_asks(numbers, counts) if table.live.present else all_refused(15, numbers)
+            asked, labels = standard_asks(numbers, counts), standard_labels(numbers, counts)
+            if not table.live.present and name == NTT:
+                labels = standard_labels(numbers, counts[:4] + [0])
+            elif not table.live.present:
+                asked = labels = all_refused(15, numbers)
             yield trial(dice, 'state well formed', '%s, %s' % (said, name), built,
-                        asked + all_refused(14, [4096 + 10]))
+                        asked + all_refused(14, [4096 + 10]), labels=[dice.one(labels)])
 
 
 def states_outside(dice):
@@ -284,7 +303,8 @@ def states_outside(dice):
                 state = with_table(state, other, state.tables[ORDER.index(other)]._replace(live=NO_LIVE))
             more = [(place_start(name, 0, 0), bytes(8))] if kind == 1 else []
             yield trial(dice, 'state not well formed', '%s, %s' % (said, name), built._replace(state=state),
-                        all_refused(2, (10, dice.one((4096, 65535)))), more=more)
+                        all_refused(2, (10, dice.one((4096, 65535)))), more=more,
+                        labels=all_refused(2, (dice.one((10, 4096)),)))
 
 
 ONLY = Table(Live(1, 5, 1), NO_GATHERED, 0)     # what most of OUTSIDE have live

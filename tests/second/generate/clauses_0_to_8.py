@@ -1,7 +1,8 @@
 """Mofrindi: sections that reach a named clause of document 01: 0 and 3 to 8.
 
 A clause makes sections that must get its answer, most of them by edits of a
-right draft.  Those of 9 to 11 are in clauses_9_to_11.py.
+right draft.  Those of 9 to 11 are in clauses_9_to_11.py, those of names alone
+in clauses_of_names.py.
 """
 
 import zlib
@@ -10,7 +11,7 @@ from collections import namedtuple
 from generate.drafts import (WHOLE, Part, break_revision, fill, grow_reserved, grow_revision, hurt_value, hurt_zero,
                              make, other_than, runs_in, start_index)
 from generate.pieces import TABLES, any_descriptor, base, channel_record, descriptor, reseal, seal, two
-from program.section import REVISION, crc
+from program.section import MEDIUM_AT, REVISION, crc
 
 Clause = namedtuple('Clause', 'answer name make')
 
@@ -18,9 +19,10 @@ Clause = namedtuple('Clause', 'answer name make')
 # ---------------------------------------------------------- the named clauses
 
 CLAUSES = []
-ALL = 'CDS MMS VCM DCM'
-RECORDS = 'CDS MMS VCM'
+ALL = 'CDS MMS VCM DCM NTT'
+RECORDS = 'CDS MMS VCM NTT'
 BODIES = 'record range'
+READ = (0xC2, 0xC3, 0xC4)       # the table numbers that are read
 
 
 def clause(answer, name, maker):
@@ -204,7 +206,8 @@ def wrong_protocol(dice, draft):
 
 
 def medium_place(draft):
-    return 3 if draft.number == 0xC2 else 1
+    """In the header's part, which begins with byte 3."""
+    return MEDIUM_AT[draft.number] - 3
 
 
 def wrong_medium(dice, draft):
@@ -212,7 +215,7 @@ def wrong_medium(dice, draft):
 
 
 def wrong_table(dice, draft):
-    draft.number = other_than(dice, 256, (0xC2, 0xC4))
+    draft.number = other_than(dice, 256, READ)
 
 
 def wrong_crc(dice, section):
@@ -227,19 +230,19 @@ def put_on(dice, section):
     return section + dice.bytes(dice.between(1, 5))
 
 
-def either_number(dice):
-    return dice.one((0xC2, 0xC4))
+def any_number(dice):
+    return dice.one(READ)
 
 
 def too_few(dice):
     size = dice.below(5)
-    return bytes([either_number(dice), 0x30, size]) + dice.bytes(size)
+    return bytes([any_number(dice), 0x30, size]) + dice.bytes(size)
 
 
 clause(3, 'no byte at all', lambda dice: b'')
 clause(3, 'one or two bytes', lambda dice: base(dice.one(TABLES))[:dice.between(1, 2)])
 clause(3, 'fewer than 8 bytes, exactly 3 + L', too_few)
-clause(3, 'seven bytes, CRC right', lambda dice: seal(either_number(dice), b''))
+clause(3, 'seven bytes, CRC right', lambda dice: seal(any_number(dice), b''))
 on(3, 'bytes missing at the end', ALL, after=cut_off)
 on(3, 'bytes too many at the end', ALL, after=put_on)
 on(3, 'L one too small, CRC right', ALL, after=length_off(-1, -1))
@@ -292,14 +295,14 @@ def begun_at_zero(front):
     return crc(front) ^ crc(bytes(len(front)))
 
 
-on(4, 'table number 0xC3', ALL, table_is(0xC3))
-on(4, 'table number 0xC5', ALL, table_is(0xC5))
+for _number in (0xC0, 0xC1, 0xC5, 0xC6, 0x43):
+    on(4, 'table number 0x%X' % _number, ALL, table_is(_number))
 on(4, 'any other table number', ALL, wrong_table)
 on(4, '4 and 5: 4 wins', ALL, wrong_table, after=wrong_crc)
 on(4, '4 and 6: 4 wins', ALL, wrong_protocol, wrong_table)
 on(4, '4 and 7: 4 wins', ALL, wrong_medium, wrong_table)
 clause(4, 'eight bytes of another table: 4 before 8',
-       lambda dice: seal(other_than(dice, 256, (0xC2, 0xC4)), dice.bytes(1)))
+       lambda dice: seal(other_than(dice, 256, READ), dice.bytes(1)))
 
 on(5, 'a bit of the CRC', ALL, after=crc_bit)
 on(5, 'a bit before the CRC', ALL, after=content_bit)
@@ -333,13 +336,15 @@ on(6, '6 and 8: 6 wins', ALL, wrong_protocol, in_one('header record range', runs
 on(6, '6 and 10: 6 wins', ALL, wrong_protocol, in_one(BODIES, hurt_value))
 on(6, '6 and 11: 6 wins', ALL, wrong_protocol, revision_wrong())
 clause(6, 'protocol version in 8 bytes: 6 before 8',
-       lambda dice: seal(either_number(dice), [dice.between(1, 31)]))
+       lambda dice: seal(any_number(dice), [dice.between(1, 31)]))
 
 on(7, 'medium not 0', ALL, wrong_medium)
 for _subtype in (0,) + tuple(range(3, 16)):
     on(7, 'subtype %d of 0xC2' % _subtype, 'CDS', subtype_is(_subtype))
 for _subtype in range(2, 16):
     on(7, 'subtype %d of 0xC4' % _subtype, 'DCM', subtype_is(_subtype))
+for _subtype in tuple(range(6)) + tuple(range(7, 16)):
+    on(7, 'subtype %d of 0xC3' % _subtype, 'NTT', subtype_is(_subtype))
 on(7, '7 and zero bits of byte 1: 7 wins', ALL, wrong_medium, top_bits)
 on(7, '7 and zero bits of byte 3: 7 wins', ALL, wrong_medium, byte_3_bits)
 on(7, '7 and first index 0: 7 wins', 'CDS MMS', wrong_medium, put('header', 1, b'\x00'))
@@ -367,7 +372,7 @@ def count_one_more(dice, draft):
     if draft.number == 0xC2:
         draft.data('header')[2] += 1
     else:
-        draft.data('head')[-1] += 1
+        draft.parts[draft.places('head', 'total')[0]].data[-1] += 1
 
 
 def inner_count_more(dice, draft):
@@ -395,7 +400,7 @@ def last_body_one_more(dice, draft):
     draft.parts[-1].data[1] += 1
 
 
-for _number, _most in ((0xC2, 3), (0xC4, 1)):
+for _number, _most in ((0xC2, 3), (0xC3, 4), (0xC4, 1)):
     for _top, _byte_3, _said in ((0x30, 0, ''), (0xF0, 0, ', zero bits of byte 1: 8 wins'),
                                  (0x30, 0xE0, ', zero bits of byte 3: 8 wins')):
         clause(8, 'medium not there, 0x%X%s' % (_number, _said),
@@ -405,7 +410,7 @@ clause(8, 'medium not there, first index 0: 8 wins',
 clause(8, 'map number not there', no_map(0x30, 0))
 clause(8, 'map number not there, zero bits of byte 1: 8 wins', no_map(0x70, 0))
 clause(8, 'map number not there, zero bits of byte 3: 8 wins', no_map(0x30, 0x20))
-on(8, 'head runs into the CRC', 'VCM DCM', in_one('head', runs_in))
+on(8, 'head runs into the CRC', 'VCM DCM NTT', in_one('head total', runs_in))
 on(8, '8 and 9 in a head: 8 wins', 'VCM DCM', in_one('head', hurt_zero, one_short))
 on(8, 'record runs into the CRC', RECORDS, in_one('record', runs_in))
 on(8, 'last byte of a record not there', RECORDS, in_one('record', one_short))

@@ -1,13 +1,10 @@
-"""Mofrindi: the named clauses, continued: 9 to 11.
+"""Mofrindi: the named clauses, continued: 9 to 11; those of names alone are in clauses_of_names.py."""
 
-CLAUSES is whole once this file is read: take it, and from_clauses(), from here.
-"""
-
-from generate.clauses_0_to_8 import (ALL, BODIES, CLAUSES, RECORDS, channel, count_one_more, in_one, last_index_is,
-                                     not_there, on, put, ranges_end_at, revision_wrong, second_at_256)
+from generate.clauses_0_to_8 import (ALL, BODIES, RECORDS, channel, count_one_more, in_one, last_index_is, not_there,
+                                     on, put, ranges_end_at, revision_wrong, second_at_256)
 from generate.drafts import Part, break_revision, hurt_mode, hurt_value, hurt_zero, runs_in, start_index
-from generate.pieces import Item, descriptor, two
-from program.section import CDS, DCM, MMS, REVISION, VCM
+from generate.pieces import descriptor, two
+from program.section import CDS, DCM, MMS, NTT, REVISION, VCM
 
 
 def front_and_behind(front_kinds, front, behind_kinds, behind):
@@ -59,13 +56,14 @@ every_zero_bit(VCM, 'record', 2, 0x40)
 every_zero_bit(VCM, 'record', 6, 0x70, 1)
 every_zero_bit(VCM, 'record', 7, 0xFF, 1)
 every_zero_bit(VCM, 'record', 8, 0xFF, 1)
+every_zero_bit(NTT, 'record', 0, 0x7F)
 on(9, 'zero bits of an analogue application channel', 'VCM', channel(1, 1),
    in_one('chosen', hurt_zero))
 on(9, '9 and 10 in the header: 9 wins', 'CDS MMS', in_one('header', hurt_zero, hurt_value))
 on(9, '9 and 10 in one record: 9 wins', RECORDS, in_one('record', hurt_zero, hurt_value))
 on(9, '9 in the record at index 256: 9 wins', 'CDS MMS', second_at_256(hurt_zero), records=2)
 on(9, '9 in the header, what follows not there: 9 wins', ALL,
-   front_and_behind('header', hurt_zero, 'head record', not_there))
+   front_and_behind('header', hurt_zero, 'head total record', not_there))
 on(9, '9 in the head, what follows not there: 9 wins', 'VCM DCM',
    front_and_behind('head', hurt_zero, BODIES, not_there))
 on(9, '9 in a record, its descriptor count not there: 9 wins', RECORDS,
@@ -233,12 +231,3 @@ on(11, 'revision body of 1 byte', ALL, revision_of(1))
 on(11, 'revision body of 2 bytes', ALL, revision_of(2))
 on(11, 'number above last', ALL, revision_wrong('above'))
 on(11, 'number one above last', ALL, one_above_last)
-
-
-def from_clauses(dice, times):
-    """Every clause so many times."""
-    for each in CLAUSES:
-        for _ in range(times):
-            yield Item('clauses of %d' % each.answer,
-                       '%d: %s' % (each.answer, each.name),
-                       each.make(dice), each.answer)

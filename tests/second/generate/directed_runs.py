@@ -1,4 +1,4 @@
-"""Mofrindi: directed runs for `lineup`, each family with a name for every run.
+"""Mofrindi: directed runs for `lineup`, each family with a name for every run; those of names are in label_runs.py.
 
 Wherever the output follows by hand from document 01 it is claimed, whole where possible.
 """
@@ -6,17 +6,18 @@ Wherever the output follows by hand from document 01 it is claimed, whole where 
 import itertools
 
 from generate.check_trials import flipped
-from generate.clauses_9_to_11 import from_clauses
+from generate.clauses_of_names import from_clauses
 from generate.growth import WAYS, grown_input
 from generate.lookup_trials import LOOKUPS
-from generate.pieces import base, close, reseal, revision, seal
-from generate.plants import STANDARD, section_of_body, standard, standard_answer
-from generate.run_parts import (MAP, Run, claim_answers, claim_lines, claim_marked, claim_whole, marked, marked_plant,
-                                marked_table, mixed, one_run, output, run_input)
-from generate.trials import MAP_SCRIPTS, SCRIPTS, another_map, map_of, section_of, shuffled
+from generate.pieces import NUMBERS, base, close, reseal, revision, seal
+from generate.plants import FIVE, STANDARD, section_of_body, standard, standard_answer
+from generate.run_parts import (MAP, ONCE, Run, claim_answers, claim_lines, claim_marked, claim_whole, marked,
+                                marked_plant, marked_table, mixed, one_run, output, run_input)
+from generate.texts import ENGLISH, another_language
+from generate.trials import MAP_SCRIPTS, MAPPED, SCRIPTS, another_owner, map_of, section_of, shuffled
 from generate.tuning_trials import full_plant, trial_store
-from program.receiver import MOST_LAST, ORDER
-from program.section import CDS, DCM, MMS, VCM, Refusal, section_length
+from program.receiver import MOST_LAST, ORDER, read
+from program.section import CDS, DCM, MMS, NTT, VCM, Refusal, section_length
 from program.tuning import held_bytes
 
 NONE = ('none',) * len(ORDER)
@@ -97,7 +98,7 @@ def wrong_length(dice):
     """A section of the plant whose L says more or less than it has, its CRC as it was and put right."""
     for name, by in itertools.product(ORDER, (-5, -3, -2, -1, 1, 2, 3, 4, 7, 200)):
         for right in (False, True):
-            sections = marked_plant(dice, 3)
+            sections = marked_plant(dice, 3, ONCE)
             at = ORDER.index(name)
             old = sections[at]
             length = section_length(old) + by
@@ -131,21 +132,21 @@ def script_run(dice, name, line, half):
     for step in script.split(', '):
         what, words = step.split(' ', 1)
         version, number, last = map(int, what.rstrip('*').split('/'))
-        map_number = another_map(dice, MAP) if what.endswith('*') else MAP
-        sections.append(marked(dice, name, version, number, last, map_number))
+        owner = another_owner(dice, MAP) if what.endswith('*') else (MAP, ENGLISH)
+        sections.append(marked(dice, name, version, number, last, *owner))
         refused += words.startswith('refused')
         live = (version, last) if words.startswith('live') else live
     return sections, refused, live
 
 
 def with_others(dice, name, sections):
-    """The sections of one table mixed with all of the three others."""
+    """The sections of one table mixed with all of the others."""
     return mixed(dice, [sections] + [marked_table(dice, other, *OTHERS) for other in ORDER if other != name])
 
 
 def scripts(dice):
     """Every script of trials.py for every table; from a fresh box, and with the halves changed before."""
-    for tables, lines in ((ORDER, SCRIPTS), ((VCM, DCM), MAP_SCRIPTS)):
+    for tables, lines in ((ORDER, SCRIPTS), (MAPPED, MAP_SCRIPTS)):
         for name, line, half in itertools.product(tables, lines, (0, 1)):
             sections, refused, live = script_run(dice, name, line, half)
             lives = [live if other == name else OTHERS for other in ORDER]
@@ -176,7 +177,7 @@ def interleaved(dice):
         whole = [section for name, version, last in zip(ORDER, versions, lasts)
                  for section in marked_table(dice, name, version, last, map_number)]
         whole = shuffled(dice, whole * (1 + turn % 2))
-        yield one_run('interleaved', 'versions %d %d %d %d' % tuple(versions), map_number, whole,
+        yield one_run('interleaved', 'versions ' + ' '.join(map(str, versions)), map_number, whole,
                       claim_marked(map_number, len(whole), 0, list(zip(versions, lasts))))
 
 
@@ -219,7 +220,7 @@ def replaced(dice):
                       claim_marked(MAP, len(sections), 0, lives))
     for name in ORDER:
         for last in range(MOST_LAST + 1):
-            sections = marked_plant(dice, 5, (3, 3, 3, 3))
+            sections = marked_plant(dice, 5, (3,) * len(ORDER))
             # A version comes back, when its sections of the first time have been written over.
             for version in (6, 7, 6, 31, 0, 31):
                 sections += marked_table(dice, name, version, last)
@@ -231,7 +232,7 @@ def replaced(dice):
 def every_version(dice):
     """All 32 versions of all tables, up and down, and half of them."""
     for said, versions in (('up', range(32)), ('down', range(31, -1, -1))):
-        for lasts, count in itertools.product(((0, 0, 0, 0), (1, 0, 1, 0), (0, 1, 0, 1)), (16, 32)):
+        for lasts, count in itertools.product((ONCE, (1, 0, 1, 0, 1), (0, 1, 0, 1)), (16, 32)):
             sections = [each for version in versions[:count] for each in marked_plant(dice, version, lasts)]
             lives = [(versions[count - 1], last) for last in lasts]
             yield one_run('every version', '%s, %d of them' % (said, count), MAP, sections,
@@ -311,7 +312,7 @@ def single_sections(dice):
     for name in ORDER:
         right = base(name)
         cases = [('as it is', right, 0), ('wrong CRC', right[:-1] + bytes([right[-1] ^ 1]), 1),
-                 ('table 0xC3', reseal(b'\xC3' + right[1:]), 1),
+                 ('table 0xC1', reseal(b'\xC1' + right[1:]), 1),
                  ('protocol version 1', reseal(right[:3] + b'\x01' + right[4:]), 1),
                  ('zero bit of byte 1', reseal(right[:1] + bytes([right[1] | 0x80]) + right[2:]), 1),
                  ('no reserved bit', reseal(right[:1] + bytes([right[1] & 0x0F]) + right[2:]), 0)]
@@ -329,12 +330,22 @@ def lure(dice, name, table, map_number):
     return section_of(dice, name, map_number, version, dice.below(last + 1), last)
 
 
-def run_of_trial(dice, trial):
-    """The live sections of a trial of tuning in any order, with or without others around; the claims stay."""
-    store, map_number = bytes(trial_store(trial)), trial.state.map_number
-    lists = []
+def live_places(trial):
+    """The live sections of each table; of names none where they aren't live or not in their place."""
+    store = bytes(trial_store(trial))
     for name, table in zip(ORDER, trial.state.tables):
         own = [held_bytes(store, name, table.half, number) for number in range(table.live.last + 1)]
+        there = table.live.present and not any(isinstance(read(each), Refusal) for each in own)
+        yield own if there or name != NTT else []
+
+
+def run_of_trial(dice, trial):
+    """The live sections of a trial of tuning in any order, with or without others around; the claims stay."""
+    lists = []
+    map_number = trial.state.map_number
+    for (name, table), own in zip(zip(ORDER, trial.state.tables), live_places(trial)):
+        if not own:
+            continue
         sent = shuffled(dice, own)
         if dice.chance(4):
             sent = shuffled(dice, sent + sent)
@@ -356,7 +367,7 @@ def lookups(dice):
 
 def plant_sections(dice, plant, version, map_number=MAP):
     return {name: [section_of_body(dice, name, map_number, body, version, number, len(plant[name]) - 1)
-                   for number, body in enumerate(plant[name])] for name in ORDER}
+                   for number, body in enumerate(plant[name])] for name in plant}
 
 
 def full_plants(dice):
@@ -377,7 +388,7 @@ def standard_plants(dice):
     answers = [(number, as_answer(standard_answer(number))) for number in STANDARD]
     for turn in range(30):
         sections = plant_sections(dice, standard(), turn)
-        lists = [shuffled(dice, sections[name]) for name in ORDER]
+        lists = [shuffled(dice, sections[name]) for name in sections]
         yield one_run('standard plant', 'order %d' % turn, MAP, mixed(dice, lists),
                       claim_answers(answers)._replace(lines=claim_answers(answers).lines + ('channels=12',)))
 
@@ -390,16 +401,16 @@ def as_answer(answer):
 
 def growth_bases(dice):
     """Runs that are worth growing: plants, repeats, other maps, refused sections, versions that follow."""
-    yield 'plant', marked_plant(dice, 5, (1, 2, 0, 3))
-    standard_sections = plant_sections(dice, standard(), 5)
+    yield 'plant', marked_plant(dice, 5, (1, 2, 0, 3, 1))
+    standard_sections = plant_sections(dice, standard(FIVE), 5)
     yield 'standard plant', [each for name in ORDER for each in standard_sections[name]]
-    first = marked_plant(dice, 5, (1, 1, 1, 1))
+    first = marked_plant(dice, 5, (1,) * len(ORDER))
     yield 'repeats', mixed(dice, [first, first])
-    foreign = [marked(dice, name, 5, 0, 1, MAP ^ 1) for name in (VCM, DCM)]
+    foreign = [marked(dice, name, 5, 0, 1, MAP ^ 1, another_language(dice, ENGLISH)) for name in MAPPED]
     above = [marked(dice, name, 6, 0, 4) for name in ORDER]
     other_last = [marked(dice, name, 5, 0, 2) for name in ORDER]
     yield 'answers', mixed(dice, [first, foreign, above]) + other_last
-    yield 'versions', first + marked_plant(dice, 6, (0, 0, 0, 0)) + marked_plant(dice, 7, (3, 3, 3, 3))[:-1]
+    yield 'versions', first + marked_plant(dice, 6, ONCE) + marked_plant(dice, 7, (3,) * len(ORDER))[:-1]
     refused = [base(CDS)[:-1] + b'\0', reseal(b'\xC3' + base(MMS)[1:]), long_filler(4095), base(VCM)[:-6]]
     yield 'refused ones', mixed(dice, [first, refused[:3]]) + refused[3:]
     yield 'lists', [section for name in ORDER for section in [listed_section(dice, name)] * 2]
@@ -411,33 +422,38 @@ LISTED = {
     VCM: '00 00 12 34 20 00 00 00 00 00 03 00 03 00 12 34 02 00 03 01 00 00 08 10 12 35 02 80 00 00 01 40 00 '
          '00 0A 80 00 07 00 00 00 00 00',
     DCM: '00 01 12 34 00 02 03 83 05 81',
+    NTT: '00 65 6E 67 06 03 00 12 34 06 83 00 03 4F 6E 65 00 00 12 35 04 3F 02 04 16 01 93 00 '
+         '80 00 07 05 A0 01 AA 10 00 02 40 00 41 01 AA',
 }
 
 
 def listed_section(dice, name):
-    """Records with lists, some of them empty; with C1, C12, C9 and C10."""
-    return seal(0xC2 if name in (CDS, MMS) else 0xC4, bytes.fromhex(LISTED[name]) + revision(5, 0, 0))
+    """Records with lists, some of them empty; with C1, C12, C9 and C10, and names for these and the application."""
+    return seal(NUMBERS[name], bytes.fromhex(LISTED[name]) + revision(5, 0, 0))
+
+
+GROWN = 'grown'
 
 
 def grown(dice):
     """Every way of growth on every base; each grown run stands behind its plain twin."""
     for said, sections in growth_bases(dice):
         data = run_input(MAP, sections)
-        yield Run('grown', '%s, plain' % said, data, None, None)
+        yield Run(GROWN, '%s, plain' % said, data, None, None)
         for back, (way, grow) in enumerate(WAYS.items(), 1):
-            yield Run('grown', '%s, %s' % (said, way), grown_input(dice, data, grow), back, None)
+            yield Run(GROWN, '%s, %s' % (said, way), grown_input(dice, data, grow), back, None)
         for more in range(4):
             back = len(WAYS) + 1 + more
-            yield Run('grown', '%s, some sections' % said, grown_input(dice, data, some=2), back, None)
+            yield Run(GROWN, '%s, some sections' % said, grown_input(dice, data, some=2), back, None)
 
 
 # ---------------------------------------------------------------------- damage
 
 def single_bits(dice):
-    """Of each two neighbouring bits of a small plant one turned over, the CRC of its section put right."""
+    """Of each three neighbouring bits of a small plant one turned over, the CRC of its section put right."""
     sections = [listed_section(dice, name) for name in ORDER]
     for at, section in enumerate(sections):
-        for bit in range(dice.below(2), 8 * (len(section) - 4), 2):
+        for bit in range(dice.below(3), 8 * (len(section) - 4), 3):
             yield one_run('single bits', '%s, bit %d' % (ORDER[at], bit), MAP,
                           sections[:at] + [reseal(flipped(section, bit))] + sections[at + 1:])
 
@@ -468,18 +484,18 @@ def unfinished_zeros(dice):
         section = with_zero_crc(marked(dice, name, 4, 0, 0))
         lives = [(4, 0) if each == name and not missing else (3, 0) for each in ORDER]
         yield one_run('unfinished', '%s, %d zero bytes missing' % (name, missing), MAP,
-                      marked_plant(dice, 3) + [section[:len(section) - missing]],
-                      claim_marked(MAP, 5, 1 if missing else 0, lives))
+                      marked_plant(dice, 3, ONCE) + [section[:len(section) - missing]],
+                      claim_marked(MAP, 6, 1 if missing else 0, lives))
 
 
 def unfinished_again(dice):
     """A section and then its beginning: the rest may not be taken from what came before."""
     for name in ORDER:
-        plant = marked_plant(dice, 3)
+        plant = marked_plant(dice, 3, ONCE)
         section = plant.pop(ORDER.index(name))
         for size in (1, 2, 3, 8, len(section) // 2, len(section) - 4, len(section) - 1):
             yield one_run('unfinished', '%s, %d bytes of the one before' % (name, size), MAP,
-                          plant + [section, section[:size]], claim_marked(MAP, 5, 1, [(3, 0)] * 4))
+                          plant + [section, section[:size]], claim_marked(MAP, 6, 1, [(3, 0)] * 5))
 
 
 DIRECTED = (tiny, cut_anywhere, lengths, wrong_length, scripts, orders, interleaved, never_complete, replaced,

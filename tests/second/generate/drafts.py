@@ -3,19 +3,24 @@
 A draft is a section in parts; whole() gives its bytes, length and CRC right.
 """
 
-from generate.pieces import (NUMBERS, any_descriptor, cds_record, channel_record, descriptor, mms_record, revision,
-                             seal, two)
-from program.section import CDS, DCM, FORMATS, INNER_CODINGS, MMS, REVISION, SYSTEMS, VCM
+from generate.pieces import (NUMBERS, SUBTYPE, any_descriptor, cds_record, channel_record, descriptor, mms_record,
+                             name_record, revision, seal, two)
+from generate.texts import any_language, wrong_text
+from program.section import CDS, DCM, FORMATS, INNER_CODINGS, MMS, NTT, REVISION, SYSTEMS, VCM
 
 # So many records, their lists empty, still leave room for a revision.
-MOST = {CDS: 165, MMS: 140, VCM: 95, DCM: 127}
+MOST = {CDS: 165, MMS: 140, VCM: 95, DCM: 127, NTT: 120}
 WHOLE = 1024
+LONG_NAME = 24          # bytes that a drawn name has at most
 
 
 # ------------------------------------------------------------------- drafts
 
 class Part:
-    """header, head, record, range, count, inner, closing or revision."""
+    """header, head, total, record, range, count, inner, closing or revision.
+
+    total is the head of names: their record count alone, without zero bits.
+    """
 
     def __init__(self, kind, data):
         self.kind = kind
@@ -107,7 +112,17 @@ def add_dcm(dice, draft, records, lists, transport):
         draft.add('range', [dice.below(2) << 7 | count])
 
 
-ADD = {CDS: add_cds, MMS: add_mms, VCM: add_vcm, DCM: add_dcm}
+def add_ntt(dice, draft, records, lists, transport):
+    draft.add('header', b'\x00' + any_language(dice) + bytes([SUBTYPE[NTT]]))
+    draft.add('total', [records])
+    # Many records have short names, so that a revision and some descriptors find room behind them.
+    most = min(LONG_NAME, 900 // records - 5) if records else 0
+    for _ in range(records):
+        draft.add('record', name_record(dice, most))
+        add_list(dice, draft, lists)
+
+
+ADD = {CDS: add_cds, MMS: add_mms, VCM: add_vcm, DCM: add_dcm, NTT: add_ntt}
 
 
 def make(dice, table, records=None, lists=None, transport=None, others=None):
@@ -235,6 +250,8 @@ def zero_masks(draft, at):
         return {1: 0x40}
     if draft.table == MMS:
         return {1: 0x60, 2: 0xF0}
+    if draft.table == NTT:
+        return {0: 0x7F}
     masks = {0: 0xF0, 2: 0x40}
     if part.data[2] & 0x10:
         masks.update({6: 0x70, 7: 0xFF, 8: 0xFF})
@@ -276,10 +293,17 @@ def hurt_value(dice, draft, at):
         data[0] = 0 if index < 2 or dice.chance(2) else dice.between(257 - index, 255)
     elif draft.table == MMS:
         hurt_mode(dice, data, dice.one(('system', 'inner', 'format')))
+    elif draft.table == NTT:
+        rename(data, wrong_text(dice))
     elif data[2] & 0x10 and dice.chance(2):
         data[6] = data[6] & 0xF0 | dice.between(5, 15)
     else:
         data[2] = data[2] & 0xF0 | dice.between(2, 15)
+
+
+def rename(data, name):
+    """This name, right or wrong, in a record of names."""
+    data[3:] = bytes([len(name)]) + name
 
 
 def hurt_mode(dice, data, which):

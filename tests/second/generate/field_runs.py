@@ -4,13 +4,15 @@
 """
 
 from generate.directed_runs import LISTED, NONE, in_step, listed_section
-from generate.pieces import descriptor, revision, seal
-from generate.plants import Body, application, by125, carriers, digital, mode, section_of_body, spans
-from generate.run_parts import MAP, channel_line, claim_lines, claim_whole, marked_plant, one_run, output
+from generate.pieces import NUMBERS, descriptor, revision, seal
+from generate.plants import Body, application, by125, carriers, digital, mode, name_of, section_of_body, spans
+from generate.run_parts import (MAP, channel_line, claim_lines, claim_whole, labels_run, marked_plant, one_run, output)
 from generate.sweeps import sweeps
+from generate.texts import MOST_NAME, RESERVED, text_of
 from generate.trials import shuffled
+from program.labels import label_line
 from program.receiver import ORDER
-from program.section import CDS, DCM, MMS, VCM
+from program.section import CDS, DCM, MMS, NTT, VCM
 from program.tuning import Digital, ModeRecord
 
 # Marked reserved in Tables 5.7, 5.8 and 5.9 of document 003.
@@ -28,7 +30,7 @@ def changed(name, at, value):
     """listed_section() with another byte at a place behind byte 3."""
     rest = bytearray(bytes.fromhex(LISTED[name]) + revision(5, 0, 0))
     rest[at] = value
-    return seal(0xC2 if name in (CDS, MMS) else 0xC4, rest)
+    return seal(NUMBERS[name], rest)
 
 
 def field_cases():
@@ -49,6 +51,14 @@ def field_cases():
     for value in (0, 1, 127, 128, 252, 253, 254, 255):
         yield 'carriers', CDS, 4, value, value == 0 or value + 2 > 255
         yield 'channel count', DCM, 8, value, value & 0x7F == 0
+    for value in range(256):
+        # A length of two and two bytes stand behind it; behind a single effector they are another block, too long.
+        yield 'text mode', NTT, 21, value, value in RESERVED or 0x40 <= value < 0xA0
+    for value in (0, 1, 2, 3, 255):
+        yield 'length of a block', NTT, 22, value, value != 2
+        yield 'name length', NTT, 20, value, value != 4
+    for value in (0, 1, 0x40, 0x7F, 0x80, 0x81, 0xFF):
+        yield 'flags of a name', NTT, 17, value, value & 0x7F != 0
 
 
 def field_values(dice):
@@ -57,7 +67,7 @@ def field_values(dice):
         sections = [changed(each, at, value) if each == name else listed_section(dice, each)
                     for each in ORDER]
         claims = claim_lines('refused=%d' % refused, '%s=%s' % (name.lower(), 'none' if refused else '5'),
-                             *(['channels=0'] if refused else []))
+                             *(['channels=0'] if refused and name != NTT else []))
         yield one_run('field values', '%s of %s, byte 0x%02X' % (what, name, value), MAP, sections, claims)
 
 
@@ -75,7 +85,7 @@ def short_revisions(dice):
                 ('two versions', '93 03 E5 00 00 93 03 E6 00 00', False),
                 ('number above last', '93 03 E5 01 00', False),
                 ('0 of 0, more bytes', '93 05 05 00 00 93 03', True)):
-            section = seal(0xC2 if name in (CDS, MMS) else 0xC4, front + bytes.fromhex(closing))
+            section = seal(NUMBERS[name], front + bytes.fromhex(closing))
             versions = [5 if good and each == name else 'none' for each in ORDER]
             yield one_run('short revisions', '%s, %s' % (said, name), MAP, [section],
                           claim_whole(output(MAP, 1, 0 if good else 1, versions)))
@@ -97,14 +107,18 @@ def swept(dice):
 # ------------------------------------------------------------------------ the most
 
 def most_lines(dice):
-    """444 channels, as many as four sections hold, each with the longest line; and as many applications."""
+    """444 channels, as many as four sections hold, each with the longest line; and as many applications.
+
+    All have one name, the longest there is.
+    """
     values = ModeRecord(4, 15, 1, 24, 0xFFFFFFF)
     numbers = shuffled(dice, range(3652, 4096))
-    for said, record in (('digital', lambda n: digital(n, 255, 0xFFFF, 255, 1, 1)),
-                         ('applications', lambda n: application(n, 0xFFFF, 1, 1))):
+    longest = text_of(dice, MOST_NAME)
+    for said, flag, record in (('digital', 0, lambda n: digital(n, 255, 0xFFFF, 255, 1, 1, source=0xFFFF)),
+                               ('applications', 1, lambda n: application(n, 0xFFFF, 1, 1))):
         bodies = {CDS: [Body(255, [carriers(1, 0, by125(8016))])], MMS: [Body(255, [mode(values)])],
                   VCM: [Body(0, [record(n) for n in numbers[part::4]]) for part in range(4)],
-                  DCM: [Body(3652, spans('FF FF FF BF'))]}
+                  DCM: [Body(3652, spans('FF FF FF BF'))], NTT: [Body(0, [name_of(flag, 0xFFFF, longest)])]}
         sections = []
         for name in ORDER:
             last = len(bodies[name]) - 1
@@ -114,6 +128,8 @@ def most_lines(dice):
         if said == 'applications':
             line = 'channel=4095 kind=application hidden=1 path=1 application=65535'
         yield one_run('most lines', said, MAP, sections, claim_lines('channels=444', line))
+        yield labels_run('most lines', said, MAP, sections,
+                         claim_lines('channels=444', label_line(3652, longest), label_line(4095, longest)))
 
 
 def most_sections(dice):
@@ -133,7 +149,7 @@ def every_closing_tag(dice):
         front = bytes.fromhex(LISTED[name])
         for split in (0, 1, 128, 255):
             closing = b''.join(tags[:split]) + revision(5, 0, 0) + b''.join(tags[split:])
-            section = seal(0xC2 if name in (CDS, MMS) else 0xC4, front + closing)
+            section = seal(NUMBERS[name], front + closing)
             versions = [5 if each == name else 'none' for each in ORDER]
             yield one_run('closing tags', '%d before, %s' % (split, name), MAP, [section],
                           claim_whole(output(MAP, 1, 0, versions)))

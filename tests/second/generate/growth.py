@@ -8,10 +8,10 @@ from generate.drafts import WHOLE, Draft, Part, fill, grow
 from generate.pieces import any_descriptor, descriptor
 from program.lineup import MAP_BYTES, cut
 from program.receiver import read
-from program.section import CDS, DCM, HEADER_END, MMS, REVISION, VCM, Refusal
+from program.section import CDS, DCM, HEADER_BYTES, MMS, NTT, REVISION, VCM, Refusal
 
-HEAD_BYTES = {CDS: 0, MMS: 0, VCM: 7, DCM: 3}
-RECORD_BYTES = {CDS: 5, MMS: 6, VCM: 9, DCM: 1}
+HEAD_BYTES = {CDS: 0, MMS: 0, VCM: 7, DCM: 3, NTT: 1}
+RECORD_BYTES = {CDS: 5, MMS: 6, VCM: 9, DCM: 1, NTT: 4}     # of names all but the name
 MOST_BYTE = 255         # of a descriptor count and of a descriptor's length
 INCLUDED = 0x20         # descriptors-included, in byte 0 of a VCM's head
 
@@ -24,7 +24,7 @@ def add_descriptor(draft, kind, section, found):
 
 def add_record(draft, section, at, record, listed):
     """The record that stands at this place, with its list; the place behind it."""
-    size = RECORD_BYTES[draft.table]
+    size = RECORD_BYTES[draft.table] + (record.size if draft.table == NTT else 0)
     draft.add('range' if draft.table == DCM else 'record', section[at:at + size])
     at += size
     if listed:
@@ -41,12 +41,13 @@ def draft_of(section):
     content = read(section)
     draft = Draft(content.table)
     draft.top = section[1] & 0xF0
-    draft.add('header', section[3:HEADER_END])
-    at = HEADER_END + HEAD_BYTES[content.table]
-    head = section[HEADER_END:at]
+    header_end = HEADER_BYTES[section[0]]
+    draft.add('header', section[3:header_end])
+    at = header_end + HEAD_BYTES[content.table]
+    head = section[header_end:at]
     if head:
-        draft.add('head', head)
-    listed = content.table in (CDS, MMS) or content.table == VCM and head[0] & INCLUDED != 0
+        draft.add('total' if content.table == NTT else 'head', head)
+    listed = content.table in (CDS, MMS, NTT) or content.table == VCM and head[0] & INCLUDED != 0
     for record in content.records:
         at = add_record(draft, section, at, record, listed)
     for found in content.closing:

@@ -12,7 +12,7 @@ from generate.run_parts import MAP, Run, claim_lines, claim_marked, marked, mark
 from generate.trials import shuffled
 from generate.tuning_trials import full_plant
 from program.receiver import ORDER, PLACE_BYTES, read
-from program.section import CDS, DCM, MMS, VCM
+from program.section import CDS, DCM, MMS, NTT, VCM
 
 PIECE = 65536
 LEAST_FILLER = 3
@@ -68,7 +68,7 @@ class Feed:
 
 # ------------------------------------------------------------------ over the boundaries
 
-LASTS = {CDS: 3, MMS: 1, VCM: 2, DCM: 3}
+LASTS = {CDS: 3, MMS: 1, VCM: 2, DCM: 3, NTT: 1}
 
 
 def straddled(dice, end, into, name=VCM):
@@ -175,7 +175,7 @@ def piece_again(dice):
 def many_pieces(dice):
     """Up to 400,000 bytes."""
     for total, into in ((200000, 1), (262500, 2), (300000, 3), (400000, 11)):
-        feed, live = straddled(dice, total, into, ORDER[into % 4])
+        feed, live = straddled(dice, total, into, ORDER[into % len(ORDER)])
         feed.up_to(total)
         yield finished('long', '%d bytes' % total, feed, live)
 

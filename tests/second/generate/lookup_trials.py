@@ -12,7 +12,7 @@ from generate.plants import (EMPTY, FIRST_CHANNEL, SECTIONS, STANDARD, STANDARD_
 from generate.trials import MOST_STORE
 from program.receiver import MOST_LAST, ORDER, PLACE_BYTES, STORE_BYTES, place_start
 from program.section import CDS, DCM, FORMATS, INNER_CODINGS, MMS, SYSTEMS, VCM
-from program.tuning import Analogue, Application, Digital, ModeRecord
+from program.tuning import NEEDED, Analogue, Application, Digital, ModeRecord
 
 # ------------------------------------------------------------ frequencies and units
 
@@ -511,7 +511,7 @@ def versions(dice):
 
 def empty_sections(dice):
     """Sections without records at every position of a table, the records in the others."""
-    for name in ORDER:
+    for name in NEEDED:
         for present in itertools.product((False, True), repeat=SECTIONS):
             bodies = [standard_body(name, s) if here else EMPTY[name] for s, here in enumerate(present)]
             answers = {}

@@ -7,11 +7,12 @@ Every item carries its family and a detail, and the answer it claims, if any.
 import random
 from collections import namedtuple
 
-from program.section import CDS, DCM, FORMATS, INNER_CODINGS, MMS, REVISION, SYSTEMS, VCM, crc
+from generate.texts import any_text
+from program.section import CDS, DCM, FORMATS, INNER_CODINGS, MMS, NTT, REVISION, SYSTEMS, VCM, crc
 
-TABLES = (CDS, MMS, VCM, DCM)
-NUMBERS = {CDS: 0xC2, MMS: 0xC2, VCM: 0xC4, DCM: 0xC4}
-SUBTYPE = {CDS: 1, MMS: 2, VCM: 0, DCM: 1}
+TABLES = (CDS, MMS, VCM, DCM, NTT)
+NUMBERS = {CDS: 0xC2, MMS: 0xC2, VCM: 0xC4, DCM: 0xC4, NTT: 0xC3}
+SUBTYPE = {CDS: 1, MMS: 2, VCM: 0, DCM: 1, NTT: 6}
 
 # claim is the answer the item must get, or None where none is claimed.
 Item = namedtuple('Item', 'family detail section claim')
@@ -112,6 +113,15 @@ def channel_record(dice, transport=None, application=None):
     return front + bytes([dice.below(2) << 7 | dice.below(5), 0, 0])
 
 
+def name_record(dice, most):
+    """With a name of at most so many bytes."""
+    return named(dice.below(2), dice.below(1 << 16), any_text(dice, most))
+
+
+def named(application, number, name):
+    return bytes([application << 7]) + two(number) + bytes([len(name)]) + name
+
+
 # --------------------------------------------------------------------- bases
 
 # Small sections of each table, from byte 3 up to the CRC.
@@ -121,6 +131,8 @@ BASES = {
     VCM: '00 00 12 34 20 00 00 00 00 00 02 00 03 00 12 34 02 00 03 01 01 40 00 '
          '00 08 10 12 35 02 80 00 00 00 93 03 E5 01 02',
     DCM: '00 01 12 34 0F F0 02 83 05 93 03 E5 01 02 41 00',
+    NTT: '00 65 6E 67 06 02 00 12 34 09 83 00 02 4F 6E 3F 02 04 16 01 40 00 '
+         '80 00 07 04 A0 00 10 00 00 93 03 E5 01 02',
 }
 REV = revision(5, 0, 1)
 

@@ -1,25 +1,28 @@
-"""Mofrindi: plants for the trials of tuning: their records, sections and places in a store.
+"""Mofrindi: plants for the trials of tuning and labels: their records, sections and places in a store.
 
-A plant says for each of the four tables what its sections hold.  build() makes it live: a state, and the
-sections as pieces of a store.  trial() asks channels of it.
+A plant says for each of the four tables that tuning needs, and perhaps for names, what its sections hold.
+build() makes it live: a state, and the sections as pieces of a store.  trial() asks channels of it.
 """
 
 from collections import namedtuple
 
-from generate.pieces import NUMBERS, SUBTYPE, any_descriptor, descriptor, seal, two
-from program.receiver import (MOST_LAST, NO_GATHERED, ORDER, PLACE_BYTES, STORE_BYTES, Gathered, Live, State, Table,
-                              numbers_to, place_start)
-from program.section import CDS, DCM, MMS, REVISION, VCM, Refusal
+from generate.pieces import NUMBERS, SUBTYPE, any_descriptor, descriptor, named, seal, two
+from generate.texts import ENGLISH, plain
+from program.label import Fallback
+from program.receiver import (MOST_LAST, NO_GATHERED, NO_LIVE, ORDER, PLACE_BYTES, STORE_BYTES, Gathered, Live, State,
+                              Table, numbers_to, place_start)
+from program.section import CDS, DCM, MMS, NTT, REVISION, VCM, Refusal
 from program.tuning import Analogue, Application, Digital, ModeRecord
 
 MAP = 0x1234
 
 # data has no descriptor count; descriptors are whole ones, as bytes.
 Record = namedtuple('Record', 'data descriptors')
-# first is the first index, the first channel, or for a VCM descriptors-included.
+# first is the first index, the first channel, for a VCM descriptors-included, and nothing for names.
 Body = namedtuple('Body', 'first records')
-# claims has an answer, or None where none is claimed, for each of the channels.
-Trial = namedtuple('Trial', 'family name state length seed pieces channels claims')
+# claims has an answer, or None where none is claimed, for each of the channels; label_claims has the same for
+# the channels whose labels are asked: a refusal, the bytes of the name, or that it is the fallback.
+Trial = namedtuple('Trial', 'family name state length seed pieces channels claims fallback labelled label_claims')
 Asked = namedtuple('Asked', 'channel claim')
 # sections are {(table, number): bytes}; pieces are (place in the store, bytes), one written after the other.
 Built = namedtuple('Built', 'state pieces sections')
@@ -70,6 +73,11 @@ def application(number, source, hidden=0, path=0, carrier=0, program=0, mode_ind
     return digital(number, carrier, program, mode_index, hidden, path, 1, source)
 
 
+def name_of(application, number, name):
+    """A record of names."""
+    return Record(named(application, number, name), ())
+
+
 def spans(text):
     """Range bytes of a DCM from hex."""
     return [Record(bytes([byte]), ()) for byte in bytes.fromhex(text)]
@@ -77,7 +85,8 @@ def spans(text):
 
 # ------------------------------------------------------------------- sections
 
-EMPTY = {CDS: Body(1, []), MMS: Body(1, []), VCM: Body(0, []), DCM: Body(0, [])}
+EMPTY = {CDS: Body(1, []), MMS: Body(1, []), VCM: Body(0, []), DCM: Body(0, []), NTT: Body(0, [])}
+LISTED = (CDS, MMS, NTT)        # a descriptor count stands behind each record
 
 
 def record_bytes(record, listed):
@@ -86,11 +95,13 @@ def record_bytes(record, listed):
     return record.data + bytes([len(record.descriptors)]) + b''.join(record.descriptors)
 
 
-def front_bytes(dice, name, map_number, body):
+def front_bytes(dice, name, map_number, body, language):
     """Byte 3 up to the records; splice and activation time, which aren't acted on, are drawn."""
     count = len(body.records)
     if name in (CDS, MMS):
         return bytes([0, body.first, count, SUBTYPE[name]])
+    if name == NTT:
+        return b'\x00' + language + bytes([SUBTYPE[name], count])
     front = bytes([0, SUBTYPE[name]]) + two(map_number)
     if name == DCM:
         return front + two(body.first) + bytes([count])
@@ -107,10 +118,10 @@ def closing_bytes(dice, version, number, last, room):
     return whole
 
 
-def section_of_body(dice, name, map_number, body, version, number, last):
+def section_of_body(dice, name, map_number, body, version, number, last, language=ENGLISH):
     """A section (v, n, last) with this body that reads right."""
-    listed = name in (CDS, MMS) or name == VCM and body.first == 1
-    front = front_bytes(dice, name, map_number, body)
+    listed = name in LISTED or name == VCM and body.first == 1
+    front = front_bytes(dice, name, map_number, body, language)
     front += b''.join(record_bytes(record, listed) for record in body.records)
     closing = closing_bytes(dice, version, number, last, PLACE_BYTES - 7 - len(front))
     return seal(NUMBERS[name], front + closing, dice.below(4) << 4)
@@ -159,30 +170,52 @@ STANDARD_MODES = (ModeRecord(2, 15, 0, 8, 5056941), ModeRecord(4, 0, 1, 1, 1),
 FIRST_CHANNEL = 10
 STEP = 4
 SECTIONS = 4
+FIVE = (SECTIONS,) * len(ORDER)     # as many sections of each table, names too
 STANDARD = range(FIRST_CHANNEL - 1, FIRST_CHANNEL + STEP * SECTIONS + 1)     # its channels, and those beside it
+
+
+def standard_source(number):
+    return 0x1000 + number
+
+
+def standard_text(application, number, s):
+    """The name of a source or an application in section s."""
+    return plain('%s %X of %d' % ('Radio' if application else 'Canal', number, s))
+
+
+def standard_names(s):
+    """Of the three channels of section s; in front of each the name of the same number with the other flag."""
+    start = FIRST_CHANNEL + STEP * s
+    pairs = [(0, standard_source(start)), (0, standard_source(start + 1)), (1, 0x8001 + s)]
+    return Body(0, [name_of(flag, number, standard_text(flag, number, s))
+                    for application, number in pairs for flag in (1 - application, application)])
 
 
 def standard_body(name, s):
     start = FIRST_CHANNEL + STEP * s
+    if name == NTT:
+        return standard_names(s)
     if name == CDS:
         return Body(1 + 2 * s, [carrier_at(khz) for khz in STANDARD_KHZ[s]])
     if name == MMS:
         return Body(1 + s, [mode(STANDARD_MODES[s])])
     if name == VCM:
-        return Body(0, [digital(start, 1 + 2 * s, 100 + s, 1 + s, hidden=s & 1, path=s >> 1),
-                        analogue(start + 1, 2 + 2 * s, standard=s + 1, scrambled=s & 1, path=s & 1),
+        return Body(0, [digital(start, 1 + 2 * s, 100 + s, 1 + s, hidden=s & 1, path=s >> 1,
+                                source=standard_source(start)),
+                        analogue(start + 1, 2 + 2 * s, standard=s + 1, scrambled=s & 1, path=s & 1,
+                                 source=standard_source(start + 1)),
                         application(start + 2, 0x8001 + s, hidden=s >> 1)])
     return Body(start, spans('83 01'))
 
 
 def standard(counts=(SECTIONS,) * 4):
-    """So many sections of each table, in the order of ORDER."""
+    """So many sections of each table, in the order of ORDER; without a fifth number there are no names."""
     return {name: [standard_body(name, s) for s in range(count)] for name, count in zip(ORDER, counts)}
 
 
 def standard_answer(number, counts=(SECTIONS,) * 4):
     """What document 01 says of a channel of the standard plant; a number is that of a refusal."""
-    of_cds, of_mms, of_vcm, of_dcm = counts
+    of_cds, of_mms, of_vcm, of_dcm = counts[:4]
     s, kind = divmod(number - FIRST_CHANNEL, STEP)
     if not 0 <= s < of_dcm or kind == 3:
         return 17
@@ -197,6 +230,18 @@ def standard_answer(number, counts=(SECTIONS,) * 4):
     if s >= of_mms:
         return 21
     return Digital(s & 1, s >> 1, STANDARD_KHZ[s][0], 100 + s, STANDARD_MODES[s])
+
+
+def standard_label(number, counts=FIVE):
+    """What request 2026-01 says of its label: a refusal's number, the name's bytes, or the fallback."""
+    s, kind = divmod(number - FIRST_CHANNEL, STEP)
+    answer = standard_answer(number, counts)
+    if answer in (17, 18):
+        return answer
+    if s >= counts[4]:
+        return Fallback()
+    application = int(kind == 2)
+    return standard_text(application, 0x8001 + s if application else standard_source(number), s)
 
 
 def shifted_plant():
@@ -223,13 +268,22 @@ def live_table(dice, last, half=None, version=None):
                  dice.below(2) if half is None else half)
 
 
-def live_tables(dice, plant, halves=(None,) * 4):
-    return {name: live_table(dice, len(plant[name]) - 1, half) for name, half in zip(ORDER, halves)}
+def no_names(dice):
+    """The fifth table where a plant has no names: nothing, gathered ones, or live ones that aren't in their place."""
+    if dice.chance(3):
+        return live_table(dice, dice.below(SECTIONS))
+    return live_table(dice, 0)._replace(live=NO_LIVE)
+
+
+def live_tables(dice, plant, halves=()):
+    half_of = dict(zip(ORDER, halves))
+    return {name: live_table(dice, len(plant[name]) - 1, half_of.get(name)) if name in plant else no_names(dice)
+            for name in ORDER}
 
 
 def decoys(dice, tables, map_number, plant):
     """Sections of another plant at every place: of what is gathered there, or as if they were live."""
-    for name in ORDER:
+    for name in plant:
         table = tables[name]
         for half in (0, 1):
             for number in range(SECTIONS):
@@ -242,18 +296,18 @@ def decoys(dice, tables, map_number, plant):
                                        max(part.last, number)))
 
 
-def build(dice, plant, tables=None, map_number=MAP, other=None):
+def build(dice, plant, tables=None, map_number=MAP, other=None, language=ENGLISH):
     """The plant live; other is a plant whose sections stand in all places that aren't live."""
     tables = live_tables(dice, plant) if tables is None else tables
     pieces = [] if other is None else list(decoys(dice, tables, map_number, other))
     sections = {}
-    for name in ORDER:
+    for name in plant:
         live = tables[name].live
         for number, body in enumerate(plant[name]):
-            section = section_of_body(dice, name, map_number, body, live.version, number, live.last)
+            section = section_of_body(dice, name, map_number, body, live.version, number, live.last, language)
             sections[name, number] = section
             pieces.append((place_start(name, tables[name].half, number), section))
-    return Built(State(map_number, tuple(tables[name] for name in ORDER)), tuple(pieces), sections)
+    return Built(State(map_number, tuple(tables[name] for name in ORDER), language), tuple(pieces), sections)
 
 
 # ------------------------------------------------------------------ making trials
@@ -264,11 +318,20 @@ def inside_store(pieces, length):
     return tuple((place, data) for place, data in cut if data)
 
 
-def trial(dice, family, name, built, asked, length=STORE_BYTES, more=()):
-    """more are further pieces, written behind those of built."""
+def trial(dice, family, name, built, asked, length=STORE_BYTES, more=(), labels=None, fallback=None):
+    """more are further pieces, written behind those of built.
+
+    Where no labels are given, in one of three trials one of the channels is asked for its own; where no fallback
+    is given one is drawn.
+    """
+    if labels is None:
+        labels = [Asked(dice.one(asked).channel, None)] if dice.chance(3) else []
+    if fallback is None:
+        fallback = dice.bytes(dice.below(9))
     return Trial(family, name, built.state, length, dice.below(256),
                  inside_store(built.pieces + tuple(more), length),
-                 tuple(each.channel for each in asked), tuple(each.claim for each in asked))
+                 tuple(each.channel for each in asked), tuple(each.claim for each in asked), fallback,
+                 tuple(each.channel for each in labels), tuple(each.claim for each in labels))
 
 
 def asks(answers):
@@ -279,6 +342,10 @@ def asks(answers):
 
 def standard_asks(numbers=STANDARD, counts=(SECTIONS,) * 4):
     return asks({number: standard_answer(number, counts) for number in numbers})
+
+
+def standard_labels(numbers=STANDARD, counts=FIVE):
+    return asks({number: standard_label(number, counts) for number in numbers})
 
 
 def all_refused(refusal, numbers):
@@ -293,7 +360,7 @@ def plant(**tables):
 
 def listed(dice, whole):
     """The plant with descriptors behind all its records."""
-    return {name: [with_lists(dice, name, body) for body in whole[name]] for name in ORDER}
+    return {name: [with_lists(dice, name, body) for body in bodies] for name, bodies in whole.items()}
 
 
 def both_ways(dice, family, name, whole, answers):

@@ -1,26 +1,31 @@
-"""Mofrindi: a seeded generator of runs for comparing two programs that print the line-up.
+"""Mofrindi: a seeded generator of runs for comparing two programs that print the line-up or the labels.
 
-A run is the whole input of `lineup`.  batch() gives the directed runs, each with a family and a name, then
-random ones; request() gives the bytes of a run for a program.
+A run is the whole input of `lineup` or `labels`.  batch() gives the directed runs, each with a family and a name,
+then random ones, and some of all these again for `labels`; request() gives the bytes of a run for a program.
 """
 
 import sys
 
 sys.dont_write_bytecode = True
 
-from generate.directed_runs import DIRECTED, long_filler
+from generate.directed_runs import DIRECTED, GROWN, long_filler
 from generate.field_runs import FIELDS
 from generate.growth import grown_input
+from generate.label_runs import LABEL_RUNS
 from generate.long_runs import LONG
 from generate.pieces import Dice, reseal
 from generate.plants import section_of_body
-from generate.run_parts import Run, marked, mixed, one_run
-from generate.trials import NOISE, Sender, another_map, bad_section, section_of, shuffled
+from generate.run_parts import LABELS, LINEUP, Run, marked, mixed, one_run
+from generate.texts import ENGLISH
+from generate.trials import NOISE, Sender, another_owner, bad_section, section_of, shuffled
 from generate.tuning_trials import random_body, random_plant
 from program.lineup import MAP_BYTES, cut
 from program.receiver import ORDER
 
 BASES = (0, 0, 1, 95, 2040, 4076, 4080)     # first channel of a random plant, as in tuning_trials.py
+EVERY = 8               # of the runs for `lineup` one in so many is asked for `labels` as well
+LONG_EVERY = 40         # and of those with so many bytes one in so many
+LONG_BYTES = 60000
 
 
 # ------------------------------------------------------------------ random plants
@@ -45,8 +50,8 @@ def stray(dice, name, map_number):
     if way == 0:
         return bad_section(dice, name)
     last = dice.below(5)
-    number = another_map(dice, map_number) if way == 1 else map_number
-    return section_of(dice, name, number, dice.below(32), dice.below(last + 1), last)
+    number, language = another_owner(dice, map_number) if way == 1 else (map_number, ENGLISH)
+    return section_of(dice, name, number, dice.below(32), dice.below(last + 1), last, language=language)
 
 
 def random_plants(dice):
@@ -55,7 +60,7 @@ def random_plants(dice):
     feeds, version = {name: [] for name in ORDER}, dice.below(32)
     for _ in range(dice.one((1, 1, 2, 3))):
         plant = random_plant(dice, base)
-        for name in ORDER:
+        for name in plant:
             sent = table_feed(dice, name, plant[name], base, version, map_number)
             feeds[name] += sent[1:] if dice.chance(12) else sent
         version = (version + dice.one((1, 1, 31, dice.below(32)))) % 32
@@ -70,13 +75,14 @@ def random_plants(dice):
 class MarkedSender(Sender):
     """Sends the sections of marked plants."""
 
-    def make(self, number, last, version=None, map_number=None):
-        return marked(self.dice, self.name, self.version if version is None else version, number, last,
-                      self.map_number if map_number is None else map_number)
+    def make(self, number, last, version=None, owner=None):
+        map_number, language = (self.map_number, self.language) if owner is None else owner
+        return marked(self.dice, self.name, self.version if version is None else version, number, last, map_number,
+                      language)
 
 
 def random_versions(dice):
-    """Four tables that send their versions again and again, with more or less noise."""
+    """Five tables that send their versions again and again, with more or less noise."""
     map_number = dice.below(0x10000)
     senders = [MarkedSender(dice, name, map_number) for name in ORDER]
     quiet = dice.one((3, 6, 15, 40))
@@ -193,15 +199,32 @@ def numbered(runs):
     return [run if run.twin is None else run._replace(twin=at - run.twin) for at, run in enumerate(runs)]
 
 
+def again_for_labels(runs):
+    """Some of the runs for `lineup` again, for `labels`; a grown run goes with its twin, and directed ones all do."""
+    places, again = {}, []
+    for at, run in enumerate(runs):
+        first = at if run.twin is None else run.twin
+        every = EVERY if len(runs[first].data) < LONG_BYTES else LONG_EVERY
+        if run.text == LINEUP and (first % every == 0 or run.family == GROWN):
+            places[at] = len(runs) + len(again)
+            again.append(run._replace(text=LABELS, claims=None, twin=places.get(run.twin)))
+    return again
+
+
 def batch(seed, count, directed=True):
-    """All directed runs, if wanted, then so many random ones."""
+    """All directed runs, if wanted, then so many random ones, then some of them for `labels`."""
     dice = Dice(seed)
-    runs = [each for make_runs in DIRECTED + FIELDS + LONG for each in make_runs(dice)] if directed else []
+    makers = DIRECTED + FIELDS + LONG + LABEL_RUNS if directed else ()
+    runs = [each for make_runs in makers for each in make_runs(dice)]
     runs.extend(random_runs(dice, count))
-    return numbered(runs)
+    runs = numbered(runs)
+    return runs + again_for_labels(runs)
 
 
 # ----------------------------------------------------------------- the wire of a run
 
+TEXTS = (LINEUP, LABELS)        # their bytes are 0 and 1
+
+
 def request(run):
-    return len(run.data).to_bytes(4, 'little') + run.data
+    return bytes([TEXTS.index(run.text)]) + len(run.data).to_bytes(4, 'little') + run.data

@@ -8,11 +8,12 @@ import sys
 
 sys.dont_write_bytecode = True
 
-from generate.clauses_9_to_11 import CLAUSES, from_clauses    # CLAUSES for compare_section.py
+from generate.clauses_of_names import CLAUSES, from_clauses    # CLAUSES for compare_section.py
 from generate.drafts import break_anything, grow, make, valid
 from generate.pieces import NUMBERS, REV, SUBTYPE, TABLES, Dice, Item, seal, two
 from generate.sweeps import sweeps
-from program.section import DCM, VCM
+from generate.texts import any_language
+from program.section import DCM, NTT, VCM
 
 
 # -------------------------------------------------------------- random items
@@ -69,16 +70,24 @@ def right_head(dice, table):
         return bytes([dice.below(2) << 5, dice.below(2) << 7, 0, 0, 0, 0, dice.below(4)])
     if table == DCM:
         return two(dice.one((0, 1, 4000, 4094, 4095))) + bytes([dice.below(6)])
+    if table == NTT:
+        return bytes([dice.below(4)])
     return b''
+
+
+def right_header(dice, table):
+    """Byte 3 and the rest of a header."""
+    if NUMBERS[table] == 0xC2:
+        return bytes([0, dice.between(1, 255), dice.below(4), SUBTYPE[table]])
+    if table == NTT:
+        return b'\x00' + any_language(dice) + bytes([SUBTYPE[NTT]])
+    return bytes([0, SUBTYPE[table]]) + dice.bytes(2)
 
 
 def random_garbage(dice, table):
     """Anything behind a right header, sometimes a right head, CRC right."""
     size = dice.below(200) if dice.chance(10) else dice.below(50)
-    if NUMBERS[table] == 0xC2:
-        header = bytes([0, dice.between(1, 255), dice.below(4), SUBTYPE[table]])
-    else:
-        header = bytes([0, SUBTYPE[table]]) + dice.bytes(2)
+    header = right_header(dice, table)
     if not dice.chance(3):
         header += right_head(dice, table)
     rest = bytes(garbage_byte(dice) for _ in range(size))

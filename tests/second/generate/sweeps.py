@@ -4,7 +4,9 @@ The sweeps are the same for every seed, and they claim no answer.
 """
 
 from generate.drafts import fill, make
-from generate.pieces import BASES, NUMBERS, REV, TABLES, Dice, Item, base, descriptor, reseal, revision, seal, two
+from generate.pieces import (BASES, NUMBERS, REV, TABLES, Dice, Item, base, descriptor, named, reseal, revision, seal,
+                             two)
+from generate.texts import ENGLISH, MOST_NAME, SIXTEEN_BIT
 from program.section import REVISION
 
 
@@ -33,6 +35,15 @@ def vcm(count, rest, included=0):
 def dcm(first, ranges, closing=REV):
     return seal(0xC4, b'\x00\x01\x12\x34' + two(first) + bytes([len(ranges)])
                 + bytes(ranges) + closing)
+
+
+def ntt(count, rest):
+    return seal(0xC3, b'\x00' + ENGLISH + bytes([6, count]) + rest)
+
+
+def one_name(name, behind=b'\x00' + REV):
+    """A section with a record of this name; behind it an empty list and the revision."""
+    return ntt(1, named(0, 0x1234, bytes(name)) + behind)
 
 
 def sweep(name, detail, section):
@@ -124,6 +135,48 @@ def sweep_mode_indices():
                         c2(2, first, count, (MODE + b'\x00') * count + REV))
 
 
+def sweep_text_modes():
+    """Every mode byte with small lengths: as many bytes as it says, one fewer, one more, and no length."""
+    for mode in range(256):
+        yield sweep('mode byte', '0x%02X alone' % mode, one_name([mode]))
+        for length in range(4):
+            for size in {max(length - 1, 0), length, length + 1}:
+                yield sweep('mode byte', '0x%02X, length %d, %d bytes' % (mode, length, size),
+                            one_name([mode, length] + [0x41] * size))
+                yield sweep('mode byte behind a block', '0x%02X, length %d, %d bytes' % (mode, length, size),
+                            one_name([0, 1, 0x42, mode, length] + [0x41] * size))
+
+
+def sweep_text_lengths():
+    """Every length of a block of 8 bits, of 16 bits, and of an effector's parameters, filled exactly."""
+    for mode in (0, SIXTEEN_BIT, 0xA0):
+        for length in range(MOST_NAME - 1):
+            yield sweep('length of a block', '0x%02X, %d bytes' % (mode, length),
+                        one_name([mode, length] + [0x41] * length))
+
+
+# An effector, mode zero, 16 bits, an effector with parameters, and a block without bytes.
+MIXED = bytes.fromhex('83 00 03 4F 6E 65 3F 04 04 16 04 17 A5 02 01 02 10 00 84')
+
+
+def sweep_names():
+    """Every cut inside a record and what follows it, and every length of its name over the same bytes."""
+    right = named(1, 7, MIXED) + b'\x01\x40\x01\xAA'
+    for size in range(len(right) + len(REV) + 1):
+        yield sweep('cut inside names', '%d bytes' % size, ntt(1, (right + REV)[:size]))
+        yield sweep('cut inside names', '%d bytes of the second' % size, ntt(2, right + (right + REV)[:size]))
+        yield sweep('cut inside names', '%d bytes, then the revision' % size, ntt(1, right[:size] + REV))
+    for length in range(256):
+        changed = right[:3] + bytes([length]) + right[4:]
+        yield sweep('name length', '%d over %d' % (length, len(MIXED)), ntt(1, changed + REV))
+        yield sweep('name length', '%d over zeros' % length, ntt(1, right[:3] + bytes([length]) + bytes(301) + REV))
+    for count in range(256):
+        yield sweep('record count of names', '%d for 2' % count, ntt(count, right + right + REV))
+    for flags in range(256):
+        yield sweep('flags of a name', '0x%02X' % flags, ntt(1, bytes([flags]) + right[1:] + REV))
+        yield sweep('flags of a name', '0x%02X, no text' % flags, ntt(1, bytes([flags, 0, 7, 0, 0]) + REV))
+
+
 def sweep_revision():
     for number in range(256):
         for last in (number - 1, number, number + 1):
@@ -161,6 +214,7 @@ def sweep_tags():
         yield sweep('record list tag', '0x%02X, CDS' % tag, c2(1, 1, 1, CARRIER + inner))
         yield sweep('record list tag', '0x%02X, MMS' % tag, c2(2, 1, 1, MODE + inner))
         yield sweep('record list tag', '0x%02X, VCM' % tag, vcm(1, record + inner, 1))
+        yield sweep('record list tag', '0x%02X, NTT' % tag, one_name(MIXED, inner))
 
 
 def sweep_short():
@@ -199,7 +253,7 @@ def sweep_headers():
     for value in range(256):
         shown = '0x%02X' % value
         byte = bytes([value])
-        for number in (0xC2, 0xC4):
+        for number in (0xC2, 0xC3, 0xC4):
             yield sweep('protocol byte', shown + ' in 8 bytes', seal(number, byte))
         yield sweep('table number', shown, seal(value, bytes(4) + REV))
         yield sweep('medium and subtype', shown + ' of 0xC2, no more',
@@ -211,6 +265,9 @@ def sweep_headers():
         for size in (0, 1, 2):
             yield sweep('medium and subtype', shown + ' of 0xC4, %d bytes more' % size,
                         seal(0xC4, b'\x00' + byte + bytes(size)))
+        for behind in (b'', b'\x00', b'\x00' + REV):
+            yield sweep('medium and subtype', shown + ' of 0xC3, %d bytes more' % len(behind),
+                        seal(0xC3, b'\x00' + ENGLISH + byte + behind))
         yield sweep('first index', shown, c2(1 + value % 2, value, 0, REV))
     for table in TABLES:
         rest = bytes.fromhex(BASES[table])
@@ -227,7 +284,8 @@ def sweep_headers():
 def sweeps():
     for one_sweep in (sweep_bytes, sweep_bits, sweep_modes, sweep_flags,
                       sweep_standards, sweep_ranges, sweep_carriers,
-                      sweep_mode_indices, sweep_revision, sweep_tags,
+                      sweep_mode_indices, sweep_text_modes, sweep_text_lengths,
+                      sweep_names, sweep_revision, sweep_tags,
                       sweep_short, sweep_long, sweep_headers):
         for item in one_sweep():
             yield item

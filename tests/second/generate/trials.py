@@ -10,13 +10,14 @@ from collections import namedtuple
 
 sys.dont_write_bytecode = True
 
-from generate.clauses_9_to_11 import from_clauses
+from generate.clauses_of_names import from_clauses
 from generate.drafts import fill, make
 from generate.pieces import Dice, seal, two
 from generate.sections import random_damaged, random_garbage, random_plain
+from generate.texts import ENGLISH, OTHER_LANGUAGES, another_language, any_language
 from program.receiver import (FRESH, LIVE, MOST_LAST, NO_GATHERED, NO_LIVE, ORDER, PLACE_BYTES, REFUSED, REPEAT,
                               STORE_BYTES, STORED, Answer, Gathered, Live, State, Table, fresh, numbers_to)
-from program.section import DCM, MMS, VCM
+from program.section import DCM, MMS, NTT, VCM
 
 # claims has an answer, or None where none is claimed, for each of the sections.
 Trial = namedtuple('Trial', 'family name state length seed sections claims')
@@ -25,8 +26,12 @@ Offer = namedtuple('Offer', 'section claim')
 MAP = 0x1234
 MOST_STORE = 65536
 MOST_SECTION = 65535
-STORE_LENGTHS = (0, 1, 1024, 16384, 32767, 32768, 32769, 40000, 65536)
-SHORTEST = {'CDS': 16, 'MMS': 16, 'VCM': 23, 'DCM': 19}     # no record, and the revision alone
+FOUR_TABLES = 32768     # bytes, all that a box of an earlier build was lent
+STORE_LENGTHS = (0, 1, 1024, 32767, FOUR_TABLES, 32769, 40959, 40960, 40961, MOST_STORE)
+LONGER = 50000          # bytes of a store with some behind the last place
+SHORTEST = {'CDS': 16, 'MMS': 16, 'VCM': 23, 'DCM': 19, 'NTT': 18}     # no record, and the revision alone
+# The tables whose sections may be another map's: names that are in another language.
+MAPPED = (VCM, DCM, NTT)
 
 
 # --------------------------------------------------------------- states as bytes
@@ -52,7 +57,8 @@ def changed(table, **fields):
 
 
 def state_bytes(state):
-    return state.map_number.to_bytes(2, 'little') + bytes(sum((flat(table) for table in state.tables), []))
+    tables = bytes(sum((flat(table) for table in state.tables), []))
+    return state.map_number.to_bytes(2, 'little') + tables + state.language
 
 
 # ------------------------------------------------------------- the wire of a trial
@@ -79,7 +85,15 @@ def request(trial):
 
 # ------------------------------------------------------------ sections and states
 
-def section_of(dice, table, map_number, version, number, last, total=None):
+def set_owner(draft, map_number, language):
+    """The draft's map number or language, if it has one."""
+    if draft.table in (VCM, DCM):
+        draft.data('header')[2:4] = two(map_number)
+    if draft.table == NTT:
+        draft.data('header')[1:4] = language
+
+
+def section_of(dice, table, map_number, version, number, last, total=None, language=ENGLISH):
     """A section (v, n, last) that reads right, of so many bytes if total is given."""
     if total is None:
         draft = make(dice, table)
@@ -87,8 +101,7 @@ def section_of(dice, table, map_number, version, number, last, total=None):
         # Four records and their lists stay below 400 bytes.
         draft = make(dice, table, None if total > 400 else 0, others=0)
     draft.data('revision')[2:5] = bytes([dice.below(8) << 5 | version, number, last])
-    if table in (VCM, DCM):
-        draft.data('header')[2:4] = two(map_number)
+    set_owner(draft, map_number, language)
     if total is not None:
         fill(dice, draft, total)
     return draft.whole()
@@ -97,6 +110,11 @@ def section_of(dice, table, map_number, version, number, last, total=None):
 def another_map(dice, map_number):
     """Most of them one bit away."""
     return map_number ^ (1 << dice.below(16) if dice.below(4) else dice.between(1, 0xFFFF))
+
+
+def another_owner(dice, map_number, language=ENGLISH):
+    """(map number, language) of which neither is ours, so that a section of any table of MAPPED isn't."""
+    return another_map(dice, map_number), another_language(dice, language)
 
 
 def bad_section(dice, table):
@@ -125,8 +143,8 @@ def any_table(dice):
     return Table(lives, gathering, dice.below(2))
 
 
-def any_state(dice, map_number=MAP):
-    return State(map_number, tuple(any_table(dice) for _ in ORDER))
+def any_state(dice, map_number=MAP, language=ENGLISH):
+    return State(map_number, tuple(any_table(dice) for _ in ORDER), language)
 
 
 def with_table(state, name, table):
@@ -134,9 +152,9 @@ def with_table(state, name, table):
     return state._replace(tables=state.tables[:at] + (table,) + state.tables[at + 1:])
 
 
-def given(dice, name, table, map_number=MAP):
+def given(dice, name, table, map_number=MAP, language=ENGLISH):
     """A state with this table; the other tables are well formed, anyhow."""
-    return with_table(any_state(dice, map_number), name, table)
+    return with_table(any_state(dice, map_number, language), name, table)
 
 
 def trial(dice, family, name, state, offers, length=STORE_BYTES):
@@ -240,7 +258,7 @@ def outside(dice):
 
 
 def field_sweep(dice):
-    """Every value of every byte of a table, which is one of the four, drawn."""
+    """Every value of every byte of a table, which is one of the five, drawn."""
     family = 'every value of a byte'
     starts = [('both', BOTH, field) for field in FIELDS]
     starts += [('both, last %d' % last, changed(BOTH, gathered_last=last), 'gathered_held')
@@ -257,7 +275,7 @@ def field_sweep(dice):
 # --------------------------------------------------- stores, and 1 before 2 before 3
 
 def every_table(dice, version, last, total=None):
-    """All sections of one version of all four tables, table after table."""
+    """All sections of one version of all five tables, table after table."""
     return [Offer(section_of(dice, name, MAP, version, number, last, total),
                   Answer(LIVE, version) if number == last else Answer(STORED, last - number))
             for name in ORDER for number in range(last + 1)]
@@ -271,7 +289,7 @@ def store_lengths(dice):
         offers += every_table(dice, 9, 3, PLACE_BYTES)
         if not good:
             offers = [offer._replace(claim=refused(1)) for offer in offers[:5]]
-        yield trial(dice, 'store length', said, fresh(MAP), offers, length)
+        yield trial(dice, 'store length', said, fresh(MAP, ENGLISH), offers, length)
         for name in ORDER:
             bad_state = given(dice, name, BOTH._replace(half=2))
             offers = [Offer(b'', refused(2 if good else 1)), probe(dice, name, refused(2 if good else 1))]
@@ -291,20 +309,27 @@ def map_of(section):
     return int.from_bytes(section[5:7], 'big') if len(section) >= 7 else MAP
 
 
+def language_of(section):
+    return section[4:7] if len(section) >= 7 else ENGLISH
+
+
 def reading_clauses(dice):
     """Every clause of section.py's batch arrives at a receiver, between two sections it stores.
 
-    By turns the section is for our map and perhaps for another one: reading comes before the map.
+    By turns the section is for our map and language and perhaps for others: reading comes before both.
     """
     for at, item in enumerate(from_clauses(dice, 1)):
         name = ORDER[at % len(ORDER)]
-        map_number = map_of(item.section) if at // len(ORDER) % 2 else MAP
-        state = given(dice, name, FRESH._replace(half=at % 2), map_number)
+        ours = at // len(ORDER) % 2
+        map_number = map_of(item.section) if ours else MAP
+        language = language_of(item.section) if ours else ENGLISH
+        state = given(dice, name, FRESH._replace(half=at % 2), map_number, language)
         bad = Offer(item.section, refused(item.claim) if item.claim else None)
         offers = [bad, bad]
         if item.claim:
-            offers = [Offer(section_of(dice, name, map_number, 3, 0, 1), Answer(STORED, 1)), bad,
-                      Offer(section_of(dice, name, map_number, 3, 1, 1), Answer(LIVE, 3)), bad]
+            offers = [Offer(section_of(dice, name, map_number, 3, n, 1, language=language), claim)
+                      for n, claim in enumerate((Answer(STORED, 1), Answer(LIVE, 3)))]
+            offers = [offers[0], bad, offers[1], bad]
         yield trial(dice, 'clauses of reading', '%s, into %s' % (item.detail, name), state, offers)
 
 
@@ -418,7 +443,7 @@ SCRIPTS = [
      '2/1/1 stored 1'),
 ]
 
-# The same for the tables that have a map number.
+# The same for the tables of MAPPED.
 MAP_SCRIPTS = [
     ('other map', 'plain', NO_LIVE, NO_GATHERED,
      '5/0/0* other map, 5/0/0 live 5, 5/0/0* other map, 5/0/0 repeat'),
@@ -443,14 +468,14 @@ def answer_of(words):
 def script_offers(dice, name, script, map_number):
     for line in script.split(', '):
         what, words = line.split(' ', 1)
-        number = another_map(dice, map_number) if what.endswith('*') else map_number
+        number, language = another_owner(dice, map_number) if what.endswith('*') else (map_number, ENGLISH)
         version, n, last = map(int, what.rstrip('*').split('/'))
-        yield Offer(section_of(dice, name, number, version, n, last), answer_of(words))
+        yield Offer(section_of(dice, name, number, version, n, last, language=language), answer_of(words))
 
 
 def scripts(dice):
     """Every script for every table and with either half set."""
-    for tables, lines in ((ORDER, SCRIPTS), ((VCM, DCM), MAP_SCRIPTS)):
+    for tables, lines in ((ORDER, SCRIPTS), (MAPPED, MAP_SCRIPTS)):
         for name in tables:
             for half in (0, 1):
                 for family, said, lives, gathering, script in lines:
@@ -460,16 +485,31 @@ def scripts(dice):
 
 
 def map_numbers(dice):
-    """Every bit of the map number, its bytes turned round, and the borders; 0xC2 has none."""
+    """Every bit of the map number, its bytes turned round, and the borders; 0xC2 and 0xC3 have none."""
     pairs = [(MAP, MAP ^ 1 << bit) for bit in range(16)]
     pairs += [(MAP, 0x3412), (0, 0xFFFF), (0xFFFF, 0), (0, 1), (0, 0x100), (0xFF, 0xFF00), (0xFFFF, 0xFFFE)]
     for ours, other in pairs:
         for name in (VCM, DCM):
             offers = [Offer(section_of(dice, name, other, 5, 0, 0), answer_of('other map')),
                       Offer(section_of(dice, name, ours, 5, 0, 0), Answer(LIVE, 5)),
-                      Offer(section_of(dice, MMS, ours, 5, 0, 0), Answer(LIVE, 5))]
+                      Offer(section_of(dice, MMS, ours, 5, 0, 0), Answer(LIVE, 5)),
+                      Offer(section_of(dice, NTT, other, 5, 0, 0), Answer(LIVE, 5))]
             yield trial(dice, 'other map', '0x%04X, ours 0x%04X, %s' % (other, ours, name),
-                        fresh(ours), offers)
+                        fresh(ours, ENGLISH), offers)
+
+
+def languages(dice):
+    """Every bit of the three bytes, other cases and orders, and the wild card of document 003: all are others."""
+    pairs = [(ENGLISH, bytes(byte ^ (1 << bit if at == place else 0) for at, byte in enumerate(ENGLISH)))
+             for place in range(3) for bit in range(8)]
+    pairs += [(ENGLISH, other) for other in OTHER_LANGUAGES] + [(other, ENGLISH) for other in OTHER_LANGUAGES]
+    for ours, other in pairs:
+        names = [Offer(section_of(dice, NTT, MAP, 5, 0, 0, language=language), claim) for language, claim
+                 in ((other, answer_of('other map')), (ours, Answer(LIVE, 5)), (other, answer_of('other map')))]
+        # The language is nothing to the other tables.
+        others = [Offer(section_of(dice, name, MAP, 5, 0, 0, language=other), Answer(LIVE, 5)) for name in (MMS, VCM)]
+        yield trial(dice, 'other map', 'language %s, ours %s' % (other.hex(), ours.hex()), fresh(MAP, ours),
+                    names + others)
 
 
 # ---------------------------------------------------- orders, places, small scope
@@ -503,11 +543,12 @@ def every_version(dice):
             for last in (0, 1):
                 numbers = shuffled(dice, range(last + 1))
                 offers = [offer for version in versions for offer in in_order(dice, name, version, numbers)]
-                yield trial(dice, 'versions', 'all %s, last %d, %s' % (said, last, name), fresh(MAP), offers)
+                yield trial(dice, 'versions', 'all %s, last %d, %s' % (said, last, name), fresh(MAP, ENGLISH),
+                            offers)
 
 
 def interleaved(dice):
-    """All four tables with the same version, their sections mixed, version after version."""
+    """All five tables with the same version, their sections mixed, version after version."""
     for at in range(24):
         last = at % 4
         offers = []
@@ -515,15 +556,15 @@ def interleaved(dice):
             whole = [(name, number) for number in range(last + 1) for name in ORDER]
             for name, number in shuffled(dice, whole) if at >= 8 else whole:
                 offers.append(Offer(section_of(dice, name, MAP, version, number, last), None))
-        state = fresh(MAP) if at % 2 else any_state(dice)
-        yield trial(dice, 'four tables', 'mixed, last %d' % last, state, offers)
+        state = fresh(MAP, ENGLISH) if at % 2 else any_state(dice)
+        yield trial(dice, 'five tables', 'mixed, last %d' % last, state, offers)
 
 
 def sizes(dice):
     """Long ones into every place, short ones over them, and the other way round."""
     for name in ORDER:
         for half in (0, 1):
-            for length in (STORE_BYTES, STORE_BYTES + 1, 40000):
+            for length in (STORE_BYTES, STORE_BYTES + 1, LONGER):
                 offers = []
                 for version, total in enumerate((1024, 1023, SHORTEST[name], SHORTEST[name] + 1, 1024, 500)):
                     offers += [Offer(section_of(dice, name, MAP, version, number, 3, total), None)
@@ -547,10 +588,10 @@ def small_scope(dice):
     Tables and halves take turns.
     """
     made = {}
-    turn = dice.below(8)
+    turn = dice.below(2 * len(ORDER))
     for lives, gathering, offer in itertools.product(SCOPE_LIVES, SCOPE_GATHERED, SCOPE_OFFERS):
         turn += 1
-        name, half = ORDER[turn % 4], turn // 4 % 2
+        name, half = ORDER[turn % len(ORDER)], turn // len(ORDER) % 2
         if (name, offer) not in made:
             made[name, offer] = section_of(dice, name, MAP, *offer)
         said = 'live %s, gathered %s, %s gets %d/%d/%d' % (
@@ -571,24 +612,37 @@ def near_section(dice, state):
     version = dice.one((table.live.version, table.gathered.version, table.gathered.version, dice.below(32)))
     last = dice.one((table.live.last, table.gathered.last, table.gathered.last, dice.below(4)))
     last = dice.between(4, 255) if dice.chance(12) else last
-    map_number = another_map(dice, state.map_number) if dice.chance(12) else state.map_number
+    map_number, language = state.map_number, state.language
+    if dice.chance(12):
+        map_number, language = another_owner(dice, map_number, language)
     total = dice.between(SHORTEST[name], PLACE_BYTES) if dice.chance(8) else None
-    return section_of(dice, name, map_number, version, dice.below(last + 1), last, total)
+    return section_of(dice, name, map_number, version, dice.below(last + 1), last, total, language)
 
 
 def near_sections(dice, state):
     return [Offer(near_section(dice, state), None) for _ in range(dice.between(1, 8))]
 
 
+def random_state(dice):
+    return any_state(dice, dice.below(0x10000), any_language(dice))
+
+
+def random_length(dice):
+    """Of a store: mostly just enough, else longer, or near what five or four tables take."""
+    way = dice.below(16)
+    if way == 0:
+        return dice.one((STORE_BYTES, FOUR_TABLES)) + dice.between(-2, 2)
+    return dice.between(STORE_BYTES, MOST_STORE) if way < 3 else STORE_BYTES
+
+
 def random_given(dice):
-    state = any_state(dice, dice.below(0x10000))
-    length = dice.between(STORE_BYTES, MOST_STORE) if dice.chance(8) else STORE_BYTES
-    return trial(dice, 'random state', 'well formed', state, near_sections(dice, state), length)
+    state = random_state(dice)
+    return trial(dice, 'random state', 'well formed', state, near_sections(dice, state), random_length(dice))
 
 
 def random_touched(dice):
     """A well-formed state with one byte changed; it may stay well formed."""
-    state = any_state(dice, dice.below(0x10000))
+    state = random_state(dice)
     name, field = dice.one(ORDER), dice.one(FIELDS)
     value = dice.below(256) if dice.chance(3) else dice.below(5)
     table = changed(state.tables[ORDER.index(name)], **{field: value})
@@ -599,17 +653,19 @@ def random_touched(dice):
 class Sender:
     """What a plant sends of one table: a version, its last number, its sections again and again."""
 
-    def __init__(self, dice, name, map_number):
-        self.dice, self.name, self.map_number = dice, name, map_number
+    def __init__(self, dice, name, map_number, language=ENGLISH):
+        self.dice, self.name, self.map_number, self.language = dice, name, map_number, language
         self.change(dice.below(32))
 
     def change(self, version):
         self.version, self.last, self.sections, self.next = version, self.dice.below(4), {}, 0
 
-    def make(self, number, last, version=None, map_number=None):
+    def make(self, number, last, version=None, owner=None):
+        """owner is the map number and language of another plant, if it is one."""
+        map_number, language = (self.map_number, self.language) if owner is None else owner
         total = self.dice.between(SHORTEST[self.name], PLACE_BYTES) if self.dice.chance(30) else None
-        return section_of(self.dice, self.name, self.map_number if map_number is None else map_number,
-                          self.version if version is None else version, number, last, total)
+        return section_of(self.dice, self.name, map_number, self.version if version is None else version, number,
+                          last, total, language)
 
     def send(self):
         """The next section of the version; the same bytes each time."""
@@ -653,7 +709,7 @@ def last_above_3(dice, sender):
 
 def for_another_map(dice, sender):
     last = dice.one((sender.last, sender.last, dice.below(256)))
-    return sender.make(dice.below(last + 1), last, map_number=another_map(dice, sender.map_number))
+    return sender.make(dice.below(last + 1), last, owner=another_owner(dice, sender.map_number, sender.language))
 
 
 def refused_section(dice, sender):
@@ -666,9 +722,9 @@ NOISE = (lost, other_bytes, new_version, stray_version, new_last, last_above_3, 
 
 def random_run(dice):
     """A long run of a plausible plant with more or less noise, at a fresh receiver or a given one."""
-    map_number = dice.below(0x10000)
-    state = any_state(dice, map_number) if dice.chance(3) else fresh(map_number)
-    senders = [Sender(dice, name, map_number) for name in ORDER]
+    map_number, language = dice.below(0x10000), any_language(dice)
+    state = any_state(dice, map_number, language) if dice.chance(3) else fresh(map_number, language)
+    senders = [Sender(dice, name, map_number, language) for name in ORDER]
     quiet = dice.one((2, 3, 5, 12))
     offers = []
     for _ in range(dice.between(30, 200)):
@@ -676,7 +732,7 @@ def random_run(dice):
         section = dice.one(NOISE)(dice, sender) if dice.chance(quiet) else sender.send()
         offers.append(Offer(section, None))
     return trial(dice, 'long run', 'noise in one of %d' % quiet, state, offers,
-                 dice.one((STORE_BYTES, 40000)))
+                 dice.one((STORE_BYTES, LONGER)))
 
 
 def random_trials(dice, count):
@@ -686,7 +742,7 @@ def random_trials(dice, count):
         yield way(dice)
 
 
-DIRECTED = (scripts, orders, every_version, interleaved, sizes, store_lengths, map_numbers, inside, outside,
+DIRECTED = (scripts, orders, every_version, interleaved, sizes, store_lengths, map_numbers, languages, inside, outside,
             field_sweep, reading_clauses, long_sections, small_scope)
 
 

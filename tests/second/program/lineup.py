@@ -16,7 +16,8 @@ Places where the document leaves more than one reading, and the one taken here:
     count as sections and not as refused.
  4. "with `kind=application` only `application=`" says what stands after path: the line has hidden and path,
     which an application channel answers too.
- 5. While not all four tables are live every channel is refused (15), so there are no channel lines.
+ 5. While not all four tables that tuning needs are live every channel is refused (15), so there are no channel
+    lines.  Names (request 2026-01) show only in `ntt=`.
 """
 
 import os
@@ -31,9 +32,10 @@ from program.section import Refusal, section_length, word
 
 MAP_BYTES = 2
 LENGTH_END = 3          # L stands in bytes 1 and 2 and counts all that follows
+LANGUAGE = b'eng'       # of the names that the box takes in
 
 # answers has the receiver's answer to each section offered; check is what tuning.checked() finds at the end.
-Outcome = namedtuple('Outcome', 'state answers check')
+Outcome = namedtuple('Outcome', 'state store answers check')
 
 
 # ------------------------------------------------------------------ what is offered
@@ -51,11 +53,11 @@ def cut(data):
 
 def outcome(data):
     """What becomes of an input of at least two bytes: a fresh box gets its sections one after the other."""
-    state, store, answers = receiver.fresh(word(data, 0)), bytearray(receiver.STORE_BYTES), []
+    state, store, answers = receiver.fresh(word(data, 0), LANGUAGE), bytearray(receiver.STORE_BYTES), []
     for section in cut(data[MAP_BYTES:]):
         answer, state = receiver.offer(state, store, section)
         answers.append(answer)
-    return Outcome(state, answers, tuning.checked(state, store))
+    return Outcome(state, store, answers, tuning.checked(state, store))
 
 
 # ------------------------------------------------------------------ channel lines
@@ -83,14 +85,14 @@ def answer_words(answer):
     return 'kind=application %s application=%d' % (both, answer.number)
 
 
+def listed(check, numbers):
+    """(number, answer) for each of the numbers that isn't refused."""
+    answers = [(number, tuning.ask(check, number)) for number in numbers]
+    return [each for each in answers if not isinstance(each[1], Refusal)]
+
+
 def channel_lines(check, numbers):
-    """A line for each of the numbers that isn't refused."""
-    lines = []
-    for number in numbers:
-        answer = tuning.ask(check, number)
-        if not isinstance(answer, Refusal):
-            lines.append('channel=%d %s' % (number, answer_words(answer)))
-    return lines
+    return ['channel=%d %s' % (number, answer_words(answer)) for number, answer in listed(check, numbers)]
 
 
 # ------------------------------------------------------------------ the whole output

@@ -2,6 +2,10 @@
 
 Refusals 1, 2, 12 and 13 are given here, 3 to 11 by the reader in section.py.  A state is never changed:
 offer() answers with the one that follows it.  The store is lent and changed where it stands.
+
+Names (request 2026-01) are a fifth table behind the others, for the one language that the box was started with.
+Its three bytes are compared as they are: "ENG" and the wild card FF FF FF of document 003 are other languages.
+Whatever they are, a state isn't less well formed by them.
 """
 
 from collections import namedtuple
@@ -14,14 +18,14 @@ Live = namedtuple('Live', 'present version last')
 Gathered = namedtuple('Gathered', 'present version last held')
 # half is the half that is live; gathering uses the other one.
 Table = namedtuple('Table', 'live gathered half')
-# tables are in the order of ORDER.
-State = namedtuple('State', 'map_number tables')
+# tables are in the order of ORDER; language has three bytes.
+State = namedtuple('State', 'map_number tables language')
 # value: the number of the refusal, how many sections are missing, or the version that went live; else 0.
 Answer = namedtuple('Answer', 'kind value')
 
 REFUSED, OTHER_MAP, REPEAT, STORED, LIVE = 'refused', 'other map', 'repeat', 'stored', 'live'
 
-ORDER = (reading.CDS, reading.MMS, reading.VCM, reading.DCM)
+ORDER = (reading.CDS, reading.MMS, reading.VCM, reading.DCM, reading.NTT)
 HALVES = 2
 SECTIONS = 4            # places of a half, so the last number is at most 3
 PLACE_BYTES = 1024
@@ -37,9 +41,9 @@ FRESH = Table(NO_LIVE, NO_GATHERED, 1)
 read = lru_cache(maxsize=4096)(reading.read)
 
 
-def fresh(map_number):
+def fresh(map_number, language):
     """Nothing live, nothing gathered, and the half set to 1."""
-    return State(map_number, (FRESH,) * len(ORDER))
+    return State(map_number, (FRESH,) * len(ORDER), language)
 
 
 # ------------------------------------------------------------------ refusal 2
@@ -83,7 +87,7 @@ def table_well_formed(table):
 
 
 def well_formed(state):
-    """All four tables, whichever of them a section is for."""
+    """All five tables, whichever of them a section is for."""
     return all(table_well_formed(table) for table in state.tables)
 
 
@@ -130,9 +134,14 @@ def settle(table, gathered):
     return Answer(STORED, missing), table._replace(gathered=gathered)
 
 
+def is_ours(state, content):
+    """Of our map, if it is of any, and in our language, if it is in any."""
+    return content.map_number in (None, state.map_number) and content.language in (None, state.language)
+
+
 def unheld_answer(state, table, content):
     """Steps 1 to 4: the answer to a section that isn't put into the store, or None."""
-    if content.map_number is not None and content.map_number != state.map_number:
+    if not is_ours(state, content):
         return Answer(OTHER_MAP, 0)
     if content.last > MOST_LAST:
         return Answer(REFUSED, 12)

@@ -1,7 +1,8 @@
 """Mofrindi: reading of one section, refusals 3 to 11, a second implementation.
 
-Written from document 01 (the rules) and document 003 (the layouts).  Names in
-quotation marks are headings or words of document 01.
+Written from document 01 (the rules), document 003 (the layouts) and request
+2026-01 of document 02 (names).  Names in quotation marks are headings or words
+of document 01.
 
 Readings
 --------
@@ -11,7 +12,7 @@ Places where the documents leave more than one reading, and the one taken here:
     check"): the place of check 7 is byte 6 for 0xC2 and byte 4 for 0xC4.  If
     the CRC begins at or before that byte, the answer is 8, whatever the zero
     bits of bytes 1 and 3 are.
- 2. The header is bytes 0 to 6: for 0xC4 it takes in the map number.  If byte 4
+ 2. The header of 0xC2 and 0xC4 is bytes 0 to 6: it takes in the map number.  If byte 4
     is there and the map number isn't whole, 7 is judged first, then 8, and
     only then the zero bits of bytes 1 and 3 (9): the header is "taken whole:
     8 before 9 before 10".
@@ -45,16 +46,26 @@ Places where the documents leave more than one reading, and the one taken here:
 14. A last number above 3 reads right here; 12 belongs to the receiver.
 15. The public question shows the body: start is the place of the first body
     byte in the section, length may be 0.  0x93 is answered like any other tag.
+16. The header of 0xC3 is bytes 0 to 7; its medium and subtype stand in byte 7,
+    behind the language, so a section of 8 to 11 bytes is 8.  The record count
+    is the structure's head, a thing of its own, and 0 reads right.
+17. A record of names is taken whole, its name too: 8 if the name runs into the
+    CRC, then the seven zero bits, then the text (10).  Its descriptor count
+    always follows.  A name of no bytes is wrong text; the text is text.py's.
+18. Every language reads right here; which one is ours the receiver says.
 """
 
 from collections import namedtuple
 
-CDS, MMS, VCM, DCM = 'CDS', 'MMS', 'VCM', 'DCM'
+from program import text
+
+CDS, MMS, VCM, DCM, NTT = 'CDS', 'MMS', 'VCM', 'DCM', 'NTT'
 
 Refusal = namedtuple('Refusal', 'number')
-# map_number is None for 0xC2; closing_start is the place of the closing list.
-Content = namedtuple('Content', 'table map_number version number last records '
-                                'closing closing_start')
+# map_number is None but for 0xC4, language but for 0xC3; closing_start is the
+# place of the closing list.
+Content = namedtuple('Content', 'table map_number language version number last '
+                                'records closing closing_start')
 # start is the place of the first body byte in the section.
 Descriptor = namedtuple('Descriptor', 'tag start length')
 Carriers = namedtuple('Carriers', 'index count spacing_khz first_khz descriptors')
@@ -64,15 +75,19 @@ Channel = namedtuple('Channel', 'number application path transport type source '
                                 'carrier program mode scrambled standard '
                                 'descriptors')
 Range = namedtuple('Range', 'first last defined')
+# start is the place of the name's first byte in the section.
+Name = namedtuple('Name', 'application number start size descriptors')
 
 REVISION = 0x93
 LONGEST = 1021          # "Bytes of a section": L is at most 1,021
 CRC_BYTES = 4
-HEADER_END = 7          # bytes 0 to 6, for both table numbers
+LANGUAGE_BYTES = 3
 
-# Byte of medium and subtype, and the subtypes named in "What the box reads".
-MEDIUM_AT = {0xC2: 6, 0xC4: 4}
-SUBTYPES = {0xC2: {1: CDS, 2: MMS}, 0xC4: {0: VCM, 1: DCM}}
+# Bytes of the header, the byte of medium and subtype in it, and the subtypes
+# named in "What the box reads" and in request 2026-01.
+HEADER_BYTES = {0xC2: 7, 0xC3: 8, 0xC4: 7}
+MEDIUM_AT = {0xC2: 6, 0xC3: 7, 0xC4: 4}
+SUBTYPES = {0xC2: {1: CDS, 2: MMS}, 0xC3: {6: NTT}, 0xC4: {0: VCM, 1: DCM}}
 
 SYSTEMS = (0, 2, 3, 4)                      # Table 5.7 of 003
 INNER_CODINGS = (0, 1, 3, 5, 7, 8, 9, 11, 15)   # Table 5.8
@@ -202,8 +217,8 @@ def read_table_name(section, end):
 
 
 def read_header(reader):
-    """Bytes 0 to 6 as one whole: 8, then the zero bits of bytes 1 and 3."""
-    header = reader.take(HEADER_END)
+    """All of its bytes as one whole: 8, then the zero bits of bytes 1 and 3."""
+    header = reader.take(HEADER_BYTES[reader.section[0]])
     need_zero(header[1] & 0xC0)
     need_zero(header[3] & 0xE0)
     return header
@@ -327,9 +342,33 @@ def read_dcm(reader, header):
     return ranges
 
 
+# ------------------------------------------------------------------ 0xC3, names
+
+def read_name(reader):
+    """Four bytes and the name as one whole: 8, then 9, then 10 for the text."""
+    front = reader.take(4)
+    start, size = reader.at, front[3]
+    name = reader.take(size)
+    need_zero(front[0] & 0x7F)
+    need(text.is_good(name))
+    return Name(front[0] >> 7, word(front, 1), start, size,
+                read_counted_descriptors(reader))
+
+
+def read_ntt(reader, header):
+    """Head of 1 byte, the record count."""
+    count = reader.take(1)[0]
+    return [read_name(reader) for _ in range(count)]
+
+
+def language_of(header):
+    return header[4:4 + LANGUAGE_BYTES]
+
+
 # ------------------------------------------------------------ the whole section
 
-STRUCTURES = {CDS: read_cds, MMS: read_mms, VCM: read_vcm, DCM: read_dcm}
+STRUCTURES = {CDS: read_cds, MMS: read_mms, VCM: read_vcm, DCM: read_dcm,
+              NTT: read_ntt}
 
 
 def read_revision(section, closing):
@@ -354,8 +393,9 @@ def read_or_raise(section):
     closing = read_closing_list(reader)
     version, number, last = read_revision(section, closing)
     map_number = word(header, 5) if table in (VCM, DCM) else None
-    return Content(table, map_number, version, number, last, records, closing,
-                   closing_start)
+    language = language_of(header) if table == NTT else None
+    return Content(table, map_number, language, version, number, last, records,
+                   closing, closing_start)
 
 
 def read(section):

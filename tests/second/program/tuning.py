@@ -11,6 +11,7 @@ Places where the document leaves more than one reading, and the one taken here:
     bytes; a length that runs past the place doesn't read right, whatever stands in the next place.
  2. 0xC2 has no map number, so nothing of the map is compared for CDS and MMS.
  3. 16 goes before 17 for all four tables: a broken place refuses also those channels that don't need it.
+    Names (request 2026-01) are none of the four: live or not, broken or not, they don't matter here.
  4. A channel must be defined (17) also if it is an application channel.
  5. "The first match ends the search": a first carrier outside the limits gives 20 and a first range that isn't
     range-defined gives 17, although a later one would do.
@@ -21,8 +22,8 @@ Places where the document leaves more than one reading, and the one taken here:
 
 from collections import namedtuple
 
-from program.receiver import ORDER, PLACE_BYTES, STORE_BYTES, place_start, read, well_formed
-from program.section import Refusal, carrier_khz, section_length
+from program.receiver import ORDER, PLACE_BYTES, STORE_BYTES, is_ours, place_start, read, well_formed
+from program.section import CDS, DCM, MMS, VCM, Refusal, carrier_khz, section_length
 
 Digital = namedtuple('Digital', 'hidden path khz program mode')
 ModeRecord = namedtuple('ModeRecord', 'system inner split format symbols')
@@ -34,6 +35,7 @@ Tables = namedtuple('Tables', 'cds mms vcm dcm')
 # given is refusal 1 or 2, or None; tables are Tables, or refusal 15 or 16.
 Checked = namedtuple('Checked', 'given tables')
 
+NEEDED = (CDS, MMS, VCM, DCM)
 MOST_CHANNEL = 4095
 LEAST_KHZ = 54000
 MOST_KHZ = 1002000
@@ -56,10 +58,14 @@ def held_bytes(store, name, half, number):
     return place[:3 + section_length(place)]
 
 
-def is_as_live(content, name, map_number, live, number):
-    """"as that table, map, version, number and last"."""
+def table_of(state, name):
+    return state.tables[ORDER.index(name)]
+
+
+def is_as_live(content, name, state, live, number):
+    """"as that table, map, version, number and last"; for names the language is what the map is for others."""
     return (content.table == name
-            and content.map_number in (None, map_number)
+            and is_ours(state, content)
             and content.version == live.version
             and content.number == number
             and content.last == live.last)
@@ -67,22 +73,22 @@ def is_as_live(content, name, map_number, live, number):
 
 def live_sections(state, store, name):
     """The records of sections 0 to last, or None where a place no longer reads right."""
-    table = state.tables[ORDER.index(name)]
+    table = table_of(state, name)
     sections = []
     for number in range(table.live.last + 1):
         content = read(held_bytes(store, name, table.half, number))
         if isinstance(content, Refusal):
             return None
-        if not is_as_live(content, name, state.map_number, table.live, number):
+        if not is_as_live(content, name, state, table.live, number):
             return None
         sections.append(content.records)
     return sections
 
 
 def live_tables(state, store):
-    if any(table.live.present == 0 for table in state.tables):
+    if any(table_of(state, name).live.present == 0 for name in NEEDED):
         return Refusal(15)
-    found = [live_sections(state, store, name) for name in ORDER]
+    found = [live_sections(state, store, name) for name in NEEDED]
     if any(sections is None for sections in found):
         return Refusal(16)
     return Tables(*found)

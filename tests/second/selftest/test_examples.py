@@ -119,10 +119,11 @@ ANSWERS = [
                             '00 FF' + '00' * 255 + '00 E8' + '00' * 232 + REV), 0),
     ('1,025 bytes', closing('00 FF' + '00' * 255 + '00 FF' + '00' * 255 +
                             '00 FF' + '00' * 255 + '00 E9' + '00' * 233 + REV), 3),
-    ('L wrong and table wrong', whole(0xC3, '00', length=6), 3),
+    ('L wrong and table wrong', whole(0xC1, '00', length=6), 3),
 
     # 4, 5, 6 by number.
-    ('table 0xC3', whole(0xC3, '00 00 00 00' + REV), 4),
+    ('table 0xC1', whole(0xC1, '00 00 00 00' + REV), 4),
+    ('table 0xC3 is one that is read', whole(0xC3, '00 00 00 00' + REV), 7),
     ('table wrong and CRC wrong', whole(0xC5, '00 00 00 00' + REV, crc=False), 4),
     ('CRC wrong', one_channel(CHANNEL)[:-1] + b'\x00', 5),
     ('CRC wrong, protocol 1', whole(0xC4, '01', crc=False), 5),

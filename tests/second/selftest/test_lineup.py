@@ -16,14 +16,14 @@ from compare.compare_section import Failure
 from generate import captures, growth, runs
 from generate.pieces import Dice
 from generate.run_parts import Claims, Run, unmet_claim
-from program import lineup, section as reading
+from program import labels, lineup, section as reading
 from selftest import test_examples as examples
 from selftest.test_tuning import C1, C7, C9, C10, C12, cds, dcm, mms, section, vcm
 
 MAP = '12 34'           # the map number of the sections made by test_tuning.py
 SLOW_RUNS = 250         # runs of which all 4,096 channels are asked
 
-EMPTY = ('lineup=1\nmap=%d\nsections=%d\nrefused=%d\ncds=none\nmms=none\nvcm=none\ndcm=none\nchannels=0\n')
+EMPTY = ('lineup=1\nmap=%d\nsections=%d\nrefused=%d\ncds=none\nmms=none\nvcm=none\ndcm=none\nntt=none\nchannels=0\n')
 
 DOCUMENT_LINE = ('channel=3 kind=digital hidden=0 path=0 khz=63000 program=3 '
                  'system=2 inner=15 split=0 format=8 symbols=5056941')
@@ -36,9 +36,9 @@ def printed(text, *sections):
 
 
 def whole(numbers, *channels):
-    """An output: map, sections, refused, then the four versions."""
-    keys = ('map', 'sections', 'refused', 'cds', 'mms', 'vcm', 'dcm')
-    lines = ['lineup=1'] + ['%s=%s' % pair for pair in zip(keys, numbers.split())]
+    """An output: map, sections, refused, then the versions; names aren't live where only four are given."""
+    keys = ('map', 'sections', 'refused', 'cds', 'mms', 'vcm', 'dcm', 'ntt')
+    lines = ['lineup=1'] + ['%s=%s' % pair for pair in zip(keys, numbers.split() + ['none'])]
     return '\n'.join(lines + ['channels=%d' % len(channels)] + list(channels)) + '\n'
 
 
@@ -52,6 +52,7 @@ cds=none
 mms=none
 vcm=none
 dcm=none
+ntt=none
 channels=0
 '''
 
@@ -206,8 +207,11 @@ def by_hand_grown():
 def without_lists(each):
     """Table, map, version, number and last, and the records; of a record's list nothing."""
     content = reading.read(each)
-    return content[:5], [record._replace(descriptors=[]) if content.table != 'DCM' else record
-                         for record in content.records]
+    if content.table == 'DCM':
+        return content[:6], content.records
+    if content.table == 'NTT':
+        return content[:6], [each[record.start - 4:record.start + record.size] for record in content.records]
+    return content[:6], [record._replace(descriptors=[]) for record in content.records]
 
 
 def growing():
@@ -240,7 +244,7 @@ def slow_lineup(data):
 
 def shortcut():
     """On runs of all families, and on as many random ones."""
-    directed = [run for run in runs.batch(5, 0) if 2 <= len(run.data) < 60000]
+    directed = [run for run in runs.batch(5, 0) if 2 <= len(run.data) < 60000 and run.text == 'lineup']
     some = directed[::2 * len(directed) // SLOW_RUNS] + runs.batch(6, SLOW_RUNS // 2, directed=False)
     lines = 0
     for run in some:
@@ -261,7 +265,8 @@ def failure(batch, data):
 
 def comparison():
     one = Run('family', 'name', b'\x01\x02\x03', None, None)
-    yield 'run as bytes', runs.request(one), bytes.fromhex('03000000 010203')
+    yield 'run as bytes', runs.request(one), bytes.fromhex('00 03000000 010203')
+    yield 'run for labels', runs.request(one._replace(text='labels')), bytes.fromhex('01 03000000 010203')
     yield 'outputs', failure([one, one], bytes.fromhex('02000000 4142 00000000')), [b'AB', b'']
     for data in ('', '020000', '02000000', '02000000 41', 'FFFFFFFF 41', '01000000 41 0000'):
         yield 'too little, ' + data, failure([one, one], bytes.fromhex(data)), 'the program writes too little'
@@ -302,12 +307,17 @@ def batches():
     """A seed gives the same runs; every twin stands before its grown run and has the same map number."""
     batch = runs.batch(9, 60, directed=False)
     yield 'the same again', runs.batch(9, 60, directed=False), batch
-    yield 'so many', len(batch), 60
+    yield 'so many', sum(run.text == 'lineup' for run in batch), 60
+    again = [run for run in batch if run.text == 'labels']
+    yield 'some for labels', 5 <= len(again) <= 15, True
+    yield 'all of them there', all(run.data in [each.data for each in batch[:60]] for run in again), True
+    yield 'twins of one text', all(batch[run.twin].text == run.text for run in batch if run.twin is not None), True
     twins = [(at, run) for at, run in enumerate(batch) if run.twin is not None]
     yield 'twins', all(run.twin < at and batch[run.twin].data[:2] == run.data[:2] for at, run in twins), True
     yield 'some twins', len(twins) > 5, True
     sizes = [len(each) for each in compare_lineup.chunks(1, 2 * compare_lineup.CHUNK + 10)]
-    yield 'chunks', (sizes[0] > compare_lineup.CHUNK, sizes[1:]), (True, [compare_lineup.CHUNK, 10])
+    yield 'chunks', (sizes[0] > compare_lineup.CHUNK, [size >= wanted for size, wanted in zip(
+        sizes[1:], (compare_lineup.CHUNK, 10))]), (True, [True, True])
 
 
 def captured():
@@ -321,7 +331,25 @@ def captured():
     yield '408 channels', b'\nchannels=408\n' in lineup.lineup(made['full']), True
     unfinished = list(lineup.cut(made['damaged'][2:]))[-1]
     yield 'unfinished', len(unfinished) < 3 + reading.section_length(unfinished), True
+    yield from captured_names(made)
     yield 'made again', {name: make() for name, make in captures.CAPTURES.items()}, made
+
+
+def captured_names(made):
+    """What the captures of names are for."""
+    shown = {name: labels.labels(data).decode().splitlines() for name, data in made.items() if data[1:]}
+    yield 'grown and plain, labels', shown['grown'], shown['plain']
+    yield 'names, versions', [shown[name][2] for name in ('names', 'badnames', 'unnamed', 'full')], [
+        'ntt=6', 'ntt=6', 'ntt=none', 'ntt=none']
+    yield 'a name', shown['names'][4], 'channel=2 label=00094368616E6E656C2032'
+    yield 'no name', shown['names'][5], 'channel=3 label='
+    yield 'an application\'s name', 'channel=27 label=000A4368616E6E656C203237' in shown['names'], True
+    yield 'effectors', 'channel=4 label=870006426F6C64203488' in shown['names'], True
+    yield '16 bits', 'channel=6 label=3F0E041A0430043D0430043B00200036' in shown['names'], True
+    yield 'the older names', shown['badnames'][4:], shown['names'][4:]
+    yield 'no names', all(line.endswith('label=') for line in shown['unnamed'][4:]), True
+    french = b'\xC3' in made['names'] and b'fra\x06' in made['names']
+    yield 'in two languages', (french, b'eng\x06' in made['names']), (True, True)
 
 
 def main():

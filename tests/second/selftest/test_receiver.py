@@ -16,8 +16,9 @@ from program import receiver
 from selftest import test_examples as examples
 
 MAP = 0x1234            # the map number of the sections in test_examples.py
-NAMES = ('CDS', 'MMS', 'VCM', 'DCM')
-STORE = 32768
+NAMES = ('CDS', 'MMS', 'VCM', 'DCM', 'NTT')
+STORE = 40960
+LANGUAGE = b'eng'
 
 NOTHING = (0, 0, 0)
 NONE_HELD = (0, 0, 0, 0)
@@ -39,13 +40,24 @@ def section(name, offer, more=''):
         return examples.mms(examples.MODE + ' 00' + closing)
     if name == 'VCM':
         return examples.vcm(examples.VCM_HEAD + '01 ' + examples.CHANNEL + closing)
+    if name == 'NTT':
+        return names(LANGUAGE, closing)
     return examples.dcm('00 02 03 83 05 81' + closing)
+
+
+def names(language, closing):
+    """A name for source 0x1234."""
+    return examples.whole(0xC3, '00 %s 06 01 00 1234 04 00 02 4F 6E 00' % language.hex() + closing)
 
 
 def for_map(name, map_number, offer):
     """A VCM or DCM section of another map, without records."""
     front = {'VCM': '00 00 %04X' + '00' * 7, 'DCM': '00 01 %04X' + '00' * 3}[name] % map_number
     return examples.whole(0xC4, front + revision(*map(int, offer.split('/'))))
+
+
+def in_language(language, offer):
+    return names(language, revision(*map(int, offer.split('/'))))
 
 
 def longest(name, offer):
@@ -62,7 +74,7 @@ def table(values):
 
 def state(name=None, values=FRESH, others=FRESH):
     """One table with these eight values, in the order of the state; the others as given."""
-    return receiver.State(MAP, tuple(table(values if each == name else others) for each in NAMES))
+    return receiver.State(MAP, tuple(table(values if each == name else others) for each in NAMES), LANGUAGE)
 
 
 def blank(length=STORE):
@@ -89,7 +101,8 @@ def untouched(before, data, words, length=STORE):
 # ------------------------------------------------------------------------- C13
 
 # The start of section 0 of half 0 and of half 1, counted out by hand.
-STARTS = {'CDS': (0, 4096), 'MMS': (8192, 12288), 'VCM': (16384, 20480), 'DCM': (24576, 28672)}
+STARTS = {'CDS': (0, 4096), 'MMS': (8192, 12288), 'VCM': (16384, 20480), 'DCM': (24576, 28672),
+          'NTT': (32768, 36864)}
 
 # (offer, answer, the table after it, where the section's bytes stand now: half and number, or None)
 C13 = [
@@ -107,7 +120,7 @@ C13 = [
 def c13(name):
     """Every answer, state and store of C13; each section has bytes of its own."""
     store, wanted_store = blank(), blank()
-    now = receiver.fresh(MAP)
+    now = receiver.fresh(MAP, LANGUAGE)
     for step, (offer, words, values, place) in enumerate(C13):
         data = section(name, offer, '40 01 %02X' % step)
         answer, now = receiver.offer(now, store, data)
@@ -135,11 +148,11 @@ def places():
 
 def longest_sections():
     """A place filled to its last byte, the last place of all too; bytes behind it stay."""
-    for name, number, start in (('CDS', 0, 4096), ('MMS', 2, 14336), ('DCM', 3, 31744)):
+    for name, number, start in (('CDS', 0, 4096), ('MMS', 2, 14336), ('DCM', 3, 31744), ('NTT', 3, 39936)):
         data = longest(name, '9/%d/3' % number)
         before = state(name, NOTHING + NONE_HELD + (0,))
         after = state(name, NOTHING + (1, 9, 3, 1 << number) + (0,))
-        for length in (32768, 32769, 40000):
+        for length in (40960, 40961, 50000):
             yield ('1,024 bytes, %s %d, store of %d' % (name, number, length), offered(before, data, length),
                    ('stored 3', after, with_bytes(start, data, length)))
     yield 'longest section', len(longest('VCM', '9/0/3')), 1024
@@ -149,7 +162,7 @@ def short_over_long():
     """The rest of the place keeps the long one's bytes."""
     store = blank()
     long_one, short_one = longest('VCM', '9/0/1'), section('VCM', '8/0/1')
-    _, now = receiver.offer(receiver.fresh(MAP), store, long_one)
+    _, now = receiver.offer(receiver.fresh(MAP, LANGUAGE), store, long_one)
     answer, now = receiver.offer(now, store, short_one)
     yield ('short over long', (answer, now, store),
            (('stored', 1), state('VCM', NOTHING + (1, 8, 1, 1) + (1,)),
@@ -199,7 +212,7 @@ BAD = [
 
 
 def refusal_2():
-    """In each of the four tables, for a section of it and of every other."""
+    """In each of the five tables, for a section of it and of every other."""
     for name in NAMES:
         for values in GOOD:
             yield 'well formed %s, %s' % (values, name), receiver.well_formed(state(name, values)), True
@@ -222,8 +235,9 @@ def order_of_checks():
     wrong_crc = right[:-1] + bytes([right[-1] ^ 1])
     for what, before, data, words, length in (
             ('store of 0 bytes', good, right, 'refused 1', 0),
-            ('store of 32,767 bytes', good, right, 'refused 1', 32767),
-            ('1 before 2', bad, right, 'refused 1', 32767),
+            ('store of 32,768 bytes, enough for four tables', good, right, 'refused 1', 32768),
+            ('store of 40,959 bytes', good, right, 'refused 1', 40959),
+            ('1 before 2', bad, right, 'refused 1', 40959),
             ('1 before 3', good, b'', 'refused 1', 0),
             ('2 before 3', bad, b'', 'refused 2', STORE),
             ('2 before other map', bad, for_map('DCM', 0x1235, '12/0/0'), 'refused 2', STORE),
@@ -253,6 +267,28 @@ def order_of_checks():
                 good, for_map(name, MAP ^ 1 << bit, '12/0/0'), 'other map 0')
 
 
+def languages():
+    """Three bytes, compared as they are; reading and 2 come before them, 12, 13 and repeat behind."""
+    good, bad = state('NTT', BOTH), state('NTT', BOTH[:7] + (2,))
+    for language in (b'ENG', b'Eng', b'fra', b'\xFF\xFF\xFF', b'\0\0\0', b'en\0', b'enh', b'fng', b'emg', b'gne'):
+        for offer in ('12/0/0', '12/0/4', '5/0/1', '5/0/2', '9/1/2', '9/0/3', '9/0/2'):
+            yield ('language %s, %s' % (language, offer),) + untouched(good, in_language(language, offer),
+                                                                       'other map 0')
+        yield ('2 before %s' % language,) + untouched(bad, in_language(language, '12/0/0'), 'refused 2')
+        yield ('11 before %s' % language,) + untouched(good, in_language(language, '12/1/0'), 'refused 11')
+        ours, data = good._replace(language=language), in_language(language, '12/0/0')
+        yield ('%s is ours' % language, offered(ours, data),
+               ('live 12', state('NTT', (1, 12, 0, 0, 0, 0, 0, 1))._replace(language=language),
+                with_bytes(36864, data)))
+        # Sections of the other tables have no language.
+        yield ('%s and DCM' % language, offered(ours, section('DCM', '12/0/0'))[0], 'live 12')
+    for at in range(3):
+        for bit in range(8):
+            other = bytes(byte ^ (1 << bit if place == at else 0) for place, byte in enumerate(LANGUAGE))
+            yield ('language, byte %d, bit %d' % (at, bit),) + untouched(good, in_language(other, '12/0/0'),
+                                                                         'other map 0')
+
+
 def steps_5_and_6():
     """(what, VCM before, offer, answer, VCM after); the other tables, with a gathered version, stay."""
     for what, before, offer, words, after in (
@@ -280,8 +316,8 @@ def steps_5_and_6():
 # --------------------------------------------------------------------- the wire
 
 def wire():
-    before = receiver.State(0x1234, tuple(table(tuple(range(at, at + 8))) for at in (1, 11, 21, 31)))
-    as_bytes = '3412 0102030405060708 0B0C0D0E0F101112 15161718191A1B1C 1F20212223242526'
+    before = receiver.State(0x1234, tuple(table(tuple(range(at, at + 8))) for at in (1, 11, 21, 31, 41)), b'fra')
+    as_bytes = '3412 0102030405060708 0B0C0D0E0F101112 15161718191A1B1C 1F20212223242526 292A2B2C2D2E2F30 667261'
     yield 'state as bytes', trials.state_bytes(before), bytes.fromhex(as_bytes)
     store = trials.store_of(32769, 200)
     yield 'store', ([store[at] for at in (0, 1, 2, 255, 256, 257, 32768)], len(store)), (
@@ -292,9 +328,10 @@ def wire():
 
 def main():
     tried = [each for name in NAMES for each in c13(name)]
-    for cases in (places, longest_sections, short_over_long, refusal_2, order_of_checks, steps_5_and_6, wire):
+    for cases in (places, longest_sections, short_over_long, refusal_2, order_of_checks, languages, steps_5_and_6,
+                  wire):
         tried.extend(cases())
-    tried.append(('fresh', receiver.fresh(MAP), state()))
+    tried.append(('fresh', receiver.fresh(MAP, LANGUAGE), state()))
     return examples.report(tried)
 
 

@@ -18,11 +18,14 @@ from selftest import test_examples as examples
 
 MAP = 0x1234            # the map number of the sections in test_examples.py
 NAMES = ('CDS', 'MMS', 'VCM', 'DCM')
-STORE = 32768
+STORE = 40960
+LANGUAGE = b'eng'
 
 # The start of section 0 of half 0 and of half 1, counted out by hand.
-STARTS = {'CDS': (0, 4096), 'MMS': (8192, 12288), 'VCM': (16384, 20480), 'DCM': (24576, 28672)}
+STARTS = {'CDS': (0, 4096), 'MMS': (8192, 12288), 'VCM': (16384, 20480), 'DCM': (24576, 28672),
+          'NTT': (32768, 36864)}
 NONE_HELD = (0, 0, 0, 0)
+NO_NAMES = (0, 0, 0) + NONE_HELD + (1,)
 
 C1, C9, C10, C12 = examples.C1, examples.CHANNEL, examples.ANALOGUE, examples.MODE
 C7 = (2, '83 05 81')
@@ -47,6 +50,10 @@ def dcm(first, ranges, map_number=MAP):
     return 0xC4, '00 01 %04X %04X %02X' % (map_number, first, len(bytes.fromhex(ranges))) + ranges
 
 
+def ntt(*records, language=LANGUAGE):
+    return 0xC3, '00 %s 06 %02X' % (language.hex(), len(records)) + ''.join(records)
+
+
 def section(body, v, n, last):
     number, front = body
     return examples.whole(number, front + ' 93 03 %02X %02X %02X' % (0xE0 | v, n, last))
@@ -60,16 +67,16 @@ def table(values):
     return receiver.Table(receiver.Live(*values[:3]), receiver.Gathered(*values[3:7]), values[7])
 
 
-def state(plant, halves=(0, 0, 0, 0), **others):
-    """Version 5 of all four tables live; others has the eight values of a table instead."""
-    values = {name: (1, 5, len(plant[name]) - 1) + NONE_HELD + (half,) for name, half in zip(NAMES, halves)}
+def state(plant, halves=(0, 0, 0, 0, 0), **others):
+    """Version 5 of all tables of the plant live; others has the eight values of a table instead."""
+    values = {name: (1, 5, len(plant[name]) - 1) + NONE_HELD + (half,) for name, half in zip(plant, halves)}
     values.update(others)
-    return receiver.State(MAP, tuple(table(values[name]) for name in NAMES))
+    return receiver.State(MAP, tuple(table(values.get(name, NO_NAMES)) for name in STARTS), LANGUAGE)
 
 
-def store(plant, halves=(0, 0, 0, 0), length=STORE):
+def store(plant, halves=(0, 0, 0, 0, 0), length=STORE):
     made = bytearray(b'\xEE' * length)
-    for name, half in zip(NAMES, halves):
+    for name, half in zip(plant, halves):
         for number, body in enumerate(plant[name]):
             data = section(body, 5, number, len(plant[name]) - 1)
             start = STARTS[name][half] + 1024 * number
@@ -283,12 +290,12 @@ def record_lists():
 # --------------------------------------------------------------- refusals 1, 2, 14 to 16
 
 def lengths():
-    for length in (0, 1, 16384, 32767):
+    for length in (0, 1, 32767, 32768, 40959):
         yield from asked('store of %d' % length, state(PLANT), store(PLANT)[:length],
                          refused(1, (3, 0, 4096, 65535)))
         yield from asked('1 before 2', state(PLANT, DCM=(2,) + (0,) * 7), store(PLANT)[:length],
                          refused(1, (3, 4096)))
-    for length in (32768, 32769, 65536):
+    for length in (40960, 40961, 65536):
         yield from asked('store of %d' % length, state(PLANT), store(PLANT, length=length),
                          {3: TUNED, 0: 'refused 17', 4095: 'refused 17', 4096: 'refused 14'})
 
@@ -363,7 +370,7 @@ def places():
             halves = tuple(half if each == name else 0 for each in NAMES)
             start = STARTS[name][half]
             for what, data in wrong_sections(name):
-                hurt = store(PLANT, halves, 40000)
+                hurt = store(PLANT, halves, 50000)
                 hurt[start:start + len(data)] = data
                 yield from asked('%s, %s, half %d' % (what, name, half), state(PLANT, halves), hurt,
                                  {**refused(16, numbers), **refused(14, (4096,))})
@@ -372,12 +379,12 @@ def places():
             yield from asked('1,024 bytes, %s, half %d' % (name, half), state(PLANT, halves), longest,
                              {3: TUNED, 5: 'refused 17'})
             # The other half, bytes behind the section and behind the last place.
-            beside = store(PLANT, halves, 40000)
+            beside = store(PLANT, halves, 50000)
             other = STARTS[name][1 - half]
             beside[other:other + 1024] = bytes(1024)
             beside[start + len(another(name)):start + 1024] = bytes(1024 - len(another(name)))
             beside[start + 1024:start + 4096] = bytes(3072)
-            beside[32768:] = bytes(40000 - 32768)
+            beside[32768:] = bytes(50000 - 32768)
             yield from asked('no matter, %s, half %d' % (name, half), state(PLANT, halves), beside,
                              {3: TUNED, 4: 'refused 18', 5: 'refused 17'})
         # Four sections: each of their places counts, for channels that don't need it too.
@@ -396,6 +403,26 @@ def places():
     yield from asked('map number', state(PLANT)._replace(map_number=MAP + 1), store(PLANT), refused(16, (3,)))
 
 
+# ------------------------------------------------------------------- names don't matter
+
+def whatever_names():
+    """Tuning with names live, gathered, damaged, or in another language."""
+    name = ntt('00 1234 04 00 02 4F 6E 00')
+    plant = dict(PLANT, NTT=[name])
+    answers = {3: TUNED, 4: 'refused 18', 5: 'refused 17', 4096: 'refused 14'}
+    yield from asked('names', state(plant), store(plant), answers)
+    yield from asked('names gathered', state(PLANT, NTT=(0, 0, 0, 1, 9, 1, 1, 0)), store(PLANT), answers)
+    yield from asked('names that are nowhere', state(PLANT, NTT=(1, 5, 3, 0, 0, 0, 0, 1)), store(PLANT), answers)
+    yield from asked('another language', state(plant)._replace(language=b'fra'), store(plant), answers)
+    for at in (0, 7, 8, 20):
+        hurt = store(plant)
+        hurt[32768 + at] ^= 1
+        yield from asked('names damaged at %d' % at, state(plant), hurt, answers)
+    for what, values in BAD:
+        yield from asked('names, ' + what, state(plant, NTT=values), store(plant), refused(2, (3, 4096)))
+    yield from asked('15 beside names', state(plant, DCM=(0,) * 8), store(plant), refused(15, (3, 4)))
+
+
 # --------------------------------------------------------------------- the wire
 
 def wire():
@@ -409,11 +436,12 @@ def wire():
            bytes.fromhex('02 01 00 00 F0D20000 04 01' + '00' * 10))
     yield ('application as bytes', compare_tuner.answer_bytes(tuning.Application(0, 1, 0x1234)),
            bytes.fromhex('03 00 01 00 00000000 3412' + '00' * 10))
-    before = receiver.State(0x1234, tuple(table(tuple(range(at, at + 8))) for at in (1, 11, 21, 31)))
-    one = plants.Trial('', '', before, 40000, 7, ((258, b'\xAA\xBB'), (259, b'\xCC')), (3, 4096), (None, None))
+    before = receiver.State(0x1234, tuple(table(tuple(range(at, at + 8))) for at in (1, 11, 21, 31, 41)), b'fra')
+    one = plants.Trial('', '', before, 40000, 7, ((258, b'\xAA\xBB'), (259, b'\xCC')), (3, 4096), (None, None),
+                       b'\xDD\xEE\xFF', (5,), (None,))
     yield 'trial as bytes', tuning_trials.request(one), bytes.fromhex(
-        '3412 0102030405060708 0B0C0D0E0F101112 15161718191A1B1C 1F20212223242526 409C0000 07 0200'
-        '02010000 0200 AABB 03010000 0100 CC 02000000 0300 0010')
+        '3412 0102030405060708 0B0C0D0E0F101112 15161718191A1B1C 1F20212223242526 292A2B2C2D2E2F30 667261'
+        '409C0000 07 0200 02010000 0200 AABB 03010000 0100 CC 02000000 0300 0010 0300 DDEEFF 01000000 0500')
     made = tuning_trials.trial_store(one)
     yield ('store of a trial', ([made[at] for at in (0, 1, 256, 257, 258, 259, 260)], len(made)),
            ([7, 38, 24, 55, 0xAA, 0xCC, 148], 40000))
@@ -422,7 +450,7 @@ def wire():
 def main():
     tried = []
     for cases in (line, carriers, first_carrier, first_mode, first_channel, first_range, channel_kinds,
-                  order_of_17_to_21, record_lists, lengths, states, places, wire):
+                  order_of_17_to_21, record_lists, lengths, states, places, whatever_names, wire):
         tried.extend(cases())
     return examples.report(tried)
 
