@@ -22,7 +22,7 @@ plain_objects() {
     local name
     python3 bench/plain/crc_tables.py >target/c/crc_tables.h || return
     plain_c=()
-    for name in section receiver tuner stream lineup; do
+    for name in section receiver tuner label stream lineup labels; do
         compile_x86 "target/c/plain_$name.o" "bench/plain/$name.c" || return
         plain_c+=("target/c/plain_$name.o")
     done

@@ -1,33 +1,43 @@
 /* Does a piece of work by the proved code and by plain C, on an input of bench/inputs.py from standard input:
 
-     measure count proved|plain TURNS WORK    does it so many times; the instructions of one turn are the difference of two runs
+     measure count proved|plain TURNS WORK    does it so many times; the instructions of one turn are the difference
+                                              of two runs
      measure compare WORK                     compares the answers of both, and the stores after them
      measure time WORK                        prints the nanoseconds of a turn of either side, the best of many
 
-   WORK is check, offer, tune CHANNEL, or lineup. Both sides are in objects of their own, so that no call can be taken out of a
-   loop, put together with another or left away. */
-#include "lineup.h"
+   WORK is check, offer, tune CHANNEL, label CHANNEL, lineup or labels. Both sides are in objects of their own, so that
+   no call can be taken out of a loop, put together with another or left away. */
+#include "label.h"
 #include "mofrindi.h"
 #include "receiver.h"
 #include "section.h"
+#include "stream.h"
 #include "tuner.h"
 
 #include <stdio.h>
 #include <string.h>
 #include <time.h>
 
-uint64_t trial_offer(const uint8_t *state, size_t state_length, uint8_t *store, size_t store_length, const uint8_t *section,
-                     size_t section_length, uint32_t part);
-uint64_t trial_tune(const uint8_t *state, size_t state_length, const uint8_t *store, size_t store_length, uint16_t channel,
-                    uint32_t part);
+uint64_t trial_start(uint16_t map, const uint8_t *language, size_t language_length, uint32_t part);
+uint64_t trial_offer(const uint8_t *state, size_t state_length, uint8_t *store, size_t store_length,
+                     const uint8_t *section, size_t section_length, uint32_t part);
+uint64_t trial_tune(const uint8_t *state, size_t state_length, const uint8_t *store, size_t store_length,
+                    uint16_t channel, uint32_t part);
+uint64_t trial_label(const uint8_t *state, size_t state_length, const uint8_t *store, size_t store_length,
+                     uint16_t channel, uint32_t part);
+uint64_t trial_shown(const uint8_t *state, size_t state_length, const uint8_t *store, size_t store_length,
+                     const uint8_t *fallback, size_t fallback_length, uint16_t channel, uint8_t *out,
+                     size_t out_length);
 uint64_t trial_lineup(const uint8_t *input, size_t input_length, uint8_t *out, size_t out_length);
+uint64_t trial_labels(const uint8_t *input, size_t input_length, uint8_t *out, size_t out_length);
 
-enum { MOST_INPUT = 1 << 22, MOST_SECTIONS = 1 << 16, OFFER_PARTS = 6, ANSWER_PART = 5, TUNE_PARTS = 3, MOST_OUTPUT = 1 << 17 };
+enum { MOST_INPUT = 1 << 22, MOST_SECTIONS = 1 << 17, LINEUP_ROOM = 1 << 17, LABEL_ROOM = 256 };
+enum { OFFER_PARTS = 8, ANSWER_PART = 7, TUNE_PARTS = 3, LABEL_PARTS = 4 };
 /* Short rounds and many of them: the best one is undisturbed on a busy machine too. Long turns have fewer. */
 enum { LEAST_ROUNDS = 21, MOST_ROUNDS = 301, ROUND_NANOSECONDS = 200000, ENOUGH_NANOSECONDS = 1000000000 };
 enum { CHANNEL_STEP = 7 };
 
-static uint8_t input[MOST_INPUT], proved_out[MOST_OUTPUT], plain_out[MOST_OUTPUT];
+static uint8_t input[MOST_INPUT], proved_out[MOST_TEXT], plain_out[MOST_TEXT];
 static size_t input_length;
 static struct {
     const uint8_t *bytes;
@@ -36,6 +46,7 @@ static struct {
 static size_t section_count;
 static uint8_t *state, *store;
 static uint16_t channel;
+static const uint8_t fallback[] = {0, 3, 'T', 'V', ' '};
 static volatile uint64_t answers;       /* a place for answers that nothing reads */
 
 static int fail(const char *what) {
@@ -108,7 +119,11 @@ static void offer_plain(void) {
 }
 
 static int compare_offer(void) {
+    uint16_t map = (uint16_t)(state[0] | state[1] << 8);
     for (uint32_t part = 0; part < OFFER_PARTS; part++) {
+        if (trial_start(map, state + LANGUAGE_AT, LANGUAGE_BYTES, part)
+            != plain_start(map, state + LANGUAGE_AT, LANGUAGE_BYTES, part))
+            return differ("the start's part", part);
         memcpy(proved_out, store, STORE);
         memcpy(plain_out, store, STORE);
         if (trial_offer(state, STATE, proved_out, STORE, sections[0].bytes, sections[0].length, part)
@@ -138,34 +153,87 @@ static int same_tuning(uint32_t number) {
     return 1;
 }
 
-static int compare_tune(void) {
-    if (!same_tuning(channel))
-        return differ("channel", channel);
+/* The channel that is measured, and many others. */
+static int compare_channels(const char *question, int (*same)(uint32_t number)) {
+    if (!same(channel))
+        return differ(question, channel);
     for (uint32_t number = 0; number <= MOST_CHANNEL + CHANNEL_STEP; number += CHANNEL_STEP)
-        if (!same_tuning(number))
-            return differ("channel", number);
+        if (!same(number))
+            return differ(question, number);
     return 0;
 }
 
-/* ---- lineup */
+static int compare_tune(void) {
+    return compare_channels("the tuning of channel", same_tuning);
+}
 
-static int prepare_lineup(void) {
+/* ---- label */
+
+static void label_proved(void) {
+    answers = trial_label(state, STATE, store, STORE, channel, 0);
+}
+
+static void label_plain(void) {
+    answers = plain_label(state, STATE, store, STORE, channel, 0);
+}
+
+/* The room that is lent for a label begins with zeros. */
+static uint64_t show(__typeof__(trial_shown) *shown, uint32_t number, uint8_t *out) {
+    memset(out, 0, LABEL_ROOM);
+    return shown(state, STATE, store, STORE, fallback, sizeof fallback, (uint16_t)number, out, LABEL_ROOM);
+}
+
+static int same_label(uint32_t number) {
+    for (uint32_t part = 0; part < LABEL_PARTS; part++)
+        if (trial_label(state, STATE, store, STORE, (uint16_t)number, part)
+            != plain_label(state, STATE, store, STORE, (uint16_t)number, part))
+            return 0;
+    return show(trial_shown, number, proved_out) == show(plain_shown, number, plain_out)
+        && memcmp(proved_out, plain_out, LABEL_ROOM) == 0;
+}
+
+static int compare_label(void) {
+    return compare_channels("the label of channel", same_label);
+}
+
+/* ---- lineup and labels */
+
+static int prepare_text(void) {
     return 0;
 }
 
 static void lineup_proved(void) {
-    answers = trial_lineup(input, input_length, proved_out, MOST_OUTPUT);
+    answers = trial_lineup(input, input_length, proved_out, LINEUP_ROOM);
 }
 
 static void lineup_plain(void) {
-    answers = plain_lineup(input, input_length, plain_out, MOST_OUTPUT);
+    answers = plain_lineup(input, input_length, plain_out, LINEUP_ROOM);
+}
+
+static void labels_proved(void) {
+    answers = trial_labels(input, input_length, proved_out, MOST_TEXT);
+}
+
+static void labels_plain(void) {
+    answers = plain_labels(input, input_length, plain_out, MOST_TEXT);
+}
+
+/* By one turn of either side. */
+static int compare_text(void (*proved)(void), void (*plain)(void)) {
+    proved();
+    uint64_t length = answers;
+    plain();
+    if (length == 0 || length != answers)
+        return differ("the length of a text", length);
+    return memcmp(proved_out, plain_out, length) ? differ("a text of bytes", length) : 0;
 }
 
 static int compare_lineup(void) {
-    uint64_t length = trial_lineup(input, input_length, proved_out, MOST_OUTPUT);
-    if (length == 0 || length != plain_lineup(input, input_length, plain_out, MOST_OUTPUT))
-        return differ("the length of a line-up", length);
-    return memcmp(proved_out, plain_out, length) ? differ("a line-up of bytes", length) : 0;
+    return compare_text(lineup_proved, lineup_plain);
+}
+
+static int compare_labels(void) {
+    return compare_text(labels_proved, labels_plain);
 }
 
 /* ---- all works */
@@ -182,7 +250,9 @@ static const struct work works[] = {
     {"check", prepare_check, check_proved, check_plain, compare_check},
     {"offer", prepare_store, offer_proved, offer_plain, compare_offer},
     {"tune", prepare_store, tune_proved, tune_plain, compare_tune},
-    {"lineup", prepare_lineup, lineup_proved, lineup_plain, compare_lineup},
+    {"label", prepare_store, label_proved, label_plain, compare_label},
+    {"lineup", prepare_text, lineup_proved, lineup_plain, compare_lineup},
+    {"labels", prepare_text, labels_proved, labels_plain, compare_labels},
 };
 
 static const struct work *work_named(const char *name) {
@@ -258,7 +328,8 @@ int main(int count, char **words) {
     int first = counts ? 4 : 2;
     const struct work *work = first < count ? work_named(words[first]) : NULL;
     if (!work || (count > first + 1 && !is_number(words[first + 1], 65535, &number)) || count > first + 2)
-        return fail("give count proved|plain TURNS, compare or time, and check, offer, tune CHANNEL or lineup");
+        return fail("give count proved|plain TURNS, compare or time, and check, offer, tune CHANNEL, label CHANNEL, "
+                    "lineup or labels");
     channel = (uint16_t)number;
     input_length = fread(input, 1, MOST_INPUT, stdin);
     if (work->prepare())

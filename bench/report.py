@@ -1,4 +1,7 @@
-"""Mofrindi: writes bench/RESULTS.md and bench/cost.svg from the figures of bench/run: report.py FIGURES COMMIT [emulated]."""
+"""Mofrindi: writes bench/RESULTS.md and bench/cost.svg from the figures of bench/run.
+
+report.py FIGURES COMMIT [emulated]
+"""
 
 import datetime
 import os
@@ -63,19 +66,19 @@ HEAD = ('work', 'proved, instructions', 'plain C, instructions', 'ratio', 'time 
 
 def row(work, turn, mark='', per=1, digits=0):
     """A turn, or its part for one of so many."""
-    return (work, shown(turn.proved / per, digits), shown(turn.plain / per, digits), '%.2f' % (turn.proved / turn.plain),
-            '%.2f' % (turn.proved_time / turn.plain_time), mark)
+    return (work, shown(turn.proved / per, digits), shown(turn.plain / per, digits),
+            '%.2f' % (turn.proved / turn.plain), '%.2f' % (turn.proved_time / turn.plain_time), mark)
 
 
 def stream_of_sections(words, turn, sections, mark_section='', mark_byte=''):
     """Two rows: of a section and of a byte."""
-    yield row('%s, %s bytes a section: a section' % (words, shown(sections.bytes / sections.count, 1)), turn, mark_section,
-              sections.count)
+    yield row('%s, %s bytes a section: a section' % (words, shown(sections.bytes / sections.count, 1)), turn,
+              mark_section, sections.count)
     yield row('%s: a byte' % words, turn, mark_byte, sections.bytes, 2)
 
 
 def check_rows(turns, plant, small):
-    for name in ('CDS', 'MMS', 'VCM', 'DCM'):
+    for name in ('CDS', 'MMS', 'VCM', 'DCM', 'NTT'):
         for length in (24, 64, 256, 1024):
             yield row('%s, %s bytes' % (name, shown(length)), turns['check %s %d' % (name.lower(), length)])
     yield from stream_of_sections('full plant', turns['check plant'], plant, mark_byte='%.1f' % MARK_BYTE)
@@ -83,7 +86,7 @@ def check_rows(turns, plant, small):
 
 
 OFFERS = (('repeats', 'repeats'), ('is_stored', 'is stored'), ('goes_live', 'goes live'))
-SIZES = (('full', 'VCM of 1,022 bytes'), ('small', 'CDS of 22 bytes'))
+SIZES = (('full', 'VCM of 1,022 bytes'), ('small', 'CDS of 22 bytes'), ('names', 'NTT of 1,022 bytes'))
 
 
 def offer_rows(turns):
@@ -100,6 +103,15 @@ def tune_rows(turns):
     for channel, words in CHANNELS:
         yield row('one channel, %s' % words, turns['tune %d 1024' % channel], mark)
     yield row('all 4,096 channels, with reading the plant once', turns['lineup plant'])
+
+
+LABELS = (('first', 'first name of the table'), ('last', 'last name of the table'),
+          ('none', 'no such name: fallback'), ('not live', 'names not live: fallback'))
+
+
+def label_rows(turns):
+    for name, words in LABELS:
+        yield row('one channel, %s' % words, turns['label ' + name])
 
 
 def stream_rows(streams):
@@ -139,7 +151,8 @@ def growth_rows(turns, streams):
 def processor():
     """Its name alone."""
     try:
-        listed = subprocess.run(['lscpu'], stdout=subprocess.PIPE, env={'LC_ALL': 'C', 'PATH': os.environ.get('PATH', '')})
+        listed = subprocess.run(['lscpu'], stdout=subprocess.PIPE,
+                                env={'LC_ALL': 'C', 'PATH': os.environ.get('PATH', '')})
     except OSError:
         return 'processor not named'
     found = re.search(r'^Model name:\s*(\S.*)$', listed.stdout.decode('utf-8', 'replace'), re.MULTILINE)
@@ -155,46 +168,56 @@ TEXT = '''# What the proved code costs beside plain C
 Written by `bench/run` on {date}, at commit {commit}, on {machine} ({processor}).
 
 Instructions are those of x86-64 code, counted exactly by {counter}. A turn is what two turns take more than
-one: starting and reading the input are left out, calling is in it. A repeated move or fill, by which the C library copies
-and fills some thousand bytes and more, counts once for each byte. Times are of both sides in one process in turn, the best
-of 21 to 301 rounds; of whole programs the processor's time, the best of 15 runs. A ratio is proved to plain C.
+one: starting and reading the input are left out, calling is in it. A repeated move or fill, by which the C library
+copies and fills some thousand bytes and more, counts once for each byte. Times are of both sides in one process in
+turn, the best of 21 to 301 rounds; of whole programs the processor's time, the best of 15 runs. A ratio is proved to
+plain C.
 
-The plain C (`bench/plain`) was written from document 01 and its readings, with the second program (`tests/second/program`) at hand
-and without a look at the proved code: static tables, a CRC of eight bytes at a time, one pass, no allocation, the same
-compiler with `-O2`. `bench/plain/test` compares it with the second program. Before anything is counted here both sides must
-give the same answers, and the same stores after an offer, on what is measured; also on sections of all kinds, most of them
-refused, and on the captures of `tests/captures`.
+The plain C (`bench/plain`) was written from documents 01 and 02 and their readings, with the second program
+(`tests/second/program`) at hand and without a look at the proved code: static tables, a CRC of eight bytes at a time,
+one pass, no allocation, the same compiler with `-O2`. `bench/plain/test` compares it with the second program. Before
+anything is counted here both sides must give the same answers, and the same stores after an offer, on what is measured;
+also on sections of all kinds, most of them refused, and on the captures of `tests/captures`.
 
 The marks are figures that such C reached elsewhere, on inputs of the same kind and size, not on these very bytes.
 
 ## The check of a section
 
 {check}
-The records of these sections have no descriptors, but for some of the small ones, and a DCM has at most 127 ranges: what is left
-of its length is a closing list of descriptors that the box doesn't know.
+The records of these sections have no descriptors, but for some of the small ones, and a DCM has at most 127 ranges:
+what is left of its length is a closing list of descriptors that the box doesn't know. A name (NTT) has 15 bytes, one
+block of text or, one in four, two; with its record it has no room in 24 bytes, as a channel's record (VCM) hasn't. The
+plant and the small sections are of the four tables that tuning needs, and so is the plot.
 
 ![instructions against the length of a section](cost.svg)
 
 ## An offer
 
-The state comes as 34 bytes on both sides and is checked whole; the answer alone is asked for.
+The state comes as 45 bytes on both sides and is checked whole; the answer alone is asked for.
 
 {offer}
 ## Tuning
 
-A full store: 16 live places of 1,024 bytes, all of them read and checked for each question. The mark is no count: it is
-{byte}, that of the check, for each of these bytes.
+A full store: 16 live places of 1,024 bytes, all of them read and checked for each question; tuning needs no names, and
+none are live. The mark is no count: it is {byte}, that of the check, for each of these bytes.
 
 {tune}
-The line-up is that of a plant of {sections} sections, {plant} bytes, from its input to the printed text. Most of what the proved
-code takes more is the filling of its buffers, 1,286,144 bytes for the lines, the store and the listings, each byte counted as an instruction: in
-the language a buffer begins with a value, and plain C's do not. Plain C doesn't check the places a second time for
-it either: nothing but its receiver, which checked them, writes there.
+The line-up is that of a plant of {sections} sections, {plant} bytes, from its input to the printed text. Most of what
+the proved code takes more is the filling of its buffers, 1,294,336 bytes for the lines, the store and the listings,
+each byte counted as an instruction: in the language a buffer begins with a value, and plain C's do not. Plain C doesn't
+check the places a second time for it either: nothing but its receiver, which checked them, writes there.
 
+## The label of a channel
+
+The same full store with four live places more, of 50 names each; all 20 are read and checked for each question. The
+channel with the first name has the first record and the first range of the other tables, that with the last name their
+last ones. Where names are not live the store is that of tuning.
+
+{label}
 ## The program `lineup`
 
-A stream of that plant, again and again; the whole program, from its start to its end. The times of the short streams are mostly those of
-starting it.
+A stream of that plant, again and again; the whole program, from its start to its end. The times of the short streams
+are mostly those of starting it.
 
 {stream}
 | bytes | proved, s | plain C, s | proved, KB | plain C, KB |
@@ -202,8 +225,8 @@ starting it.
 {spent}{emulated}
 ## Growth
 
-What each byte more costs, from one size to the next: where that stays the same the cost is linear. Tuning is that of the last
-records, on 16 live places of 256, 512 and 1,024 bytes.
+What each byte more costs, from one size to the next: where that stays the same the cost is linear. Tuning is that of
+the last records, on 16 live places of 256, 512 and 1,024 bytes.
 
 {growth}'''
 
@@ -219,9 +242,10 @@ def report(folder, turns, streams, commit, emulated):
                     growth_rows(turns, streams))
     return TEXT.format(
         date=datetime.date.today().isoformat(), commit=commit, machine=platform.machine(), processor=processor(),
-        counter=counter(emulated), emulated=EMULATED if emulated else '', check=table(HEAD, check_rows(turns, plant, small)),
-        offer=table(HEAD, offer_rows(turns)), byte=MARK_BYTE, tune=table(HEAD, tune_rows(turns)),
-        sections=plant.count, plant=shown(plant.bytes), stream=table(('bytes',) + HEAD[1:], stream_rows(streams)),
+        counter=counter(emulated), emulated=EMULATED if emulated else '',
+        check=table(HEAD, check_rows(turns, plant, small)), offer=table(HEAD, offer_rows(turns)), byte=MARK_BYTE,
+        tune=table(HEAD, tune_rows(turns)), sections=plant.count, plant=shown(plant.bytes),
+        label=table(HEAD, label_rows(turns)), stream=table(('bytes',) + HEAD[1:], stream_rows(streams)),
         spent=spent, growth=growths)
 
 

@@ -5,7 +5,8 @@
 #include <stdint.h>
 #include <string.h>
 
-_Static_assert(__BYTE_ORDER__ == __ORDER_LITTLE_ENDIAN__, "the tables of crc.h and bits_of_bytes are for little-endian loads");
+_Static_assert(__BYTE_ORDER__ == __ORDER_LITTLE_ENDIAN__,
+               "the tables of crc.h and bits_of_bytes are for little-endian loads");
 
 static inline uint32_t load32(const uint8_t *bytes) {
     uint32_t n;

@@ -1,7 +1,8 @@
 """Mofrindi: writes the tables of crc.h as C to standard output.
 
-Table k has, for each byte, what it adds to the register once k more bytes have gone by: eight bytes take eight looks and no
-shift of the register. The entries are byte-swapped, so that a little-endian load of the section needs no swap of its own.
+Table k has, for each byte, what it adds to the register once k more bytes have gone by: eight bytes take eight looks
+and no shift of the register. The entries are byte-swapped, so that a little-endian load of the section needs no swap of
+its own.
 """
 
 import sys

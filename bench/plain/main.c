@@ -1,7 +1,12 @@
-/* The program: reads standard input in large pieces and writes the line-up by one call. */
-#include "lineup.h"
+/* The program: reads standard input in large pieces and writes a text, the line-up where no other is named, by one
+   call. */
+#include "stream.h"
 
 #include <unistd.h>
+
+#ifndef TEXT
+#define TEXT plain_lineup_text
+#endif
 
 enum { PIECE = 65536, IN = 0, OUT = 1 };
 
@@ -48,15 +53,15 @@ static int take_stream(struct stream *stream, uint8_t *bytes, size_t have, size_
 }
 
 int main(void) {
-    static uint8_t bytes[PIECE], printed[MOST_LINEUP];
+    static uint8_t bytes[PIECE], printed[MOST_TEXT];
     static struct stream stream;
     long have = fill(bytes, 0, 2);
     if (have < 0)
         return 1;
     if (have < 2)
-        return write_all(printed, plain_print_refused(printed));
+        return write_all(printed, TEXT.print_refused(printed));
     plain_start_stream(&stream, (uint16_t)word(bytes));
     if (take_stream(&stream, bytes, (size_t)have, 2))
         return 1;
-    return write_all(printed, plain_print_lineup(&stream, printed));
+    return write_all(printed, TEXT.print(&stream, printed));
 }

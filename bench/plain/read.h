@@ -6,13 +6,13 @@
 #include "section.h"
 #include "walk.h"
 
-enum { NETWORK_TABLE = 0xC2, CHANNEL_TABLE = 0xC4, REVISION = 0x93, SHORTEST = 8 };
+enum { NETWORK_TABLE = 0xC2, NAMES_TABLE, CHANNEL_TABLE, SOURCE_NAMES = 6, REVISION = 0x93, SHORTEST = 8 };
 
 /* 3 to 6. */
 static inline uint32_t refusal_of_frame(const uint8_t *section, size_t length) {
     if (length < SHORTEST || length > MOST_LENGTH || length != stated_length(section))
         return 3;
-    if (section[0] != NETWORK_TABLE && section[0] != CHANNEL_TABLE)
+    if (section[0] - (uint32_t)NETWORK_TABLE > CHANNEL_TABLE - NETWORK_TABLE)
         return 4;
     if (!crc_is_right(section, length))
         return 5;
@@ -40,6 +40,14 @@ static inline uint32_t refusal_of_channel_header(const uint8_t *section, size_t 
     return (section[1] & 0xC0) | section[3] ? 9 : 0;
 }
 
+static inline uint32_t refusal_of_names_header(const uint8_t *section, size_t length) {
+    if (length < NAMES_HEADER + CRC_BYTES)
+        return 8;
+    if (section[7] != SOURCE_NAMES)
+        return 7;
+    return (section[1] & 0xC0) | section[3] ? 9 : 0;
+}
+
 /* The closing list, up to the CRC exactly: 8, and 11 behind all of it. */
 static inline uint32_t read_closing_list(struct walk *w, struct section_head *head) {
     const uint8_t *revision = NULL;
@@ -63,8 +71,8 @@ static inline uint32_t read_closing_list(struct walk *w, struct section_head *he
     return 0;
 }
 
-static inline struct walk behind_header(const uint8_t *section, size_t length) {
-    return (struct walk){section + HEADER, section + length - CRC_BYTES, NULL, 0};
+static inline struct walk behind_header(const uint8_t *section, size_t length, size_t header) {
+    return (struct walk){section + header, section + length - CRC_BYTES, NULL, 0};
 }
 
 #endif

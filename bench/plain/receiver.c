@@ -2,8 +2,9 @@
 
 static const struct holding fresh = {.half = 1};
 
-void plain_start_receiver(struct receiver *receiver, uint16_t map) {
+void plain_start_receiver(struct receiver *receiver, uint16_t map, uint32_t language) {
     receiver->map = map;
+    receiver->language = language;
     for (int table = 0; table < TABLES; table++)
         receiver->tables[table] = fresh;
 }
@@ -27,13 +28,23 @@ static inline int well_formed(const uint8_t *bytes, struct holding h) {
     return !(h.live && h.live_version == h.version);
 }
 
+static inline uint16_t map_of(const uint8_t *state) {
+    return (uint16_t)(state[0] | state[1] << 8);
+}
+
+/* By a load of four bytes that begins in front of it. */
+static inline uint32_t language_of(const uint8_t *state) {
+    return load32(state + LANGUAGE_AT - 1) >> 8;
+}
+
 uint32_t plain_receiver_from(struct receiver *receiver, const uint8_t *state, size_t store_length) {
     if (store_length < STORE)
         return 1;
-    receiver->map = (uint16_t)(state[0] | state[1] << 8);
-    memcpy(receiver->tables, state + 2, sizeof receiver->tables);
+    receiver->map = map_of(state);
+    receiver->language = language_of(state);
+    memcpy(receiver->tables, state + TABLES_AT, sizeof receiver->tables);
     for (int table = 0; table < TABLES; table++)
-        if (!well_formed(state + 2 + 8 * table, receiver->tables[table]))
+        if (!well_formed(state + TABLES_AT + HOLDING * table, receiver->tables[table]))
             return 2;
     return 0;
 }
@@ -59,7 +70,7 @@ struct answer plain_offer_section(struct receiver *receiver, uint8_t *store, con
     uint32_t refusal = plain_read_section(section, length, &head);
     if (refusal)
         return (struct answer){REFUSED, refusal};
-    if (head.table >= VCM && head.map != receiver->map)
+    if (!is_ours(receiver, head.table, section))
         return (struct answer){OTHER_MAP, 0};
     if (head.last >= SECTIONS)
         return (struct answer){REFUSED, 12};
@@ -73,33 +84,41 @@ struct answer plain_offer_section(struct receiver *receiver, uint8_t *store, con
     return hold(h, joins, &head);
 }
 
-enum part { MAP_PART, CDS_PART, DCM_PART = CDS_PART + DCM };
+enum part { MAP_PART, CDS_PART, LANGUAGE_PART = CDS_PART + TABLES, ANSWER_PART };
 
 static uint64_t part_of(const struct receiver *receiver, uint32_t part) {
     uint64_t eight;
     if (part == MAP_PART)
         return receiver->map;
+    if (part == LANGUAGE_PART)
+        return receiver->language;
     memcpy(&eight, &receiver->tables[part - CDS_PART], sizeof eight);
     return eight;
 }
 
-uint64_t plain_start(uint16_t map, uint32_t part) {
+uint64_t plain_start(uint16_t map, const uint8_t *language, size_t language_length, uint32_t part) {
     struct receiver receiver;
-    plain_start_receiver(&receiver, map);
+    uint8_t bytes[4] = {0};
+    if (part >= ANSWER_PART)
+        return 0;
+    memcpy(bytes, language, language_length < LANGUAGE_BYTES ? language_length : LANGUAGE_BYTES);
+    plain_start_receiver(&receiver, map, load32(bytes));
     return part_of(&receiver, part);
 }
 
 static uint64_t part_before(const uint8_t *state, uint32_t part) {
-    return part == MAP_PART ? (uint64_t)(state[0] | state[1] << 8) : load64(state + 2 + 8 * (part - CDS_PART));
+    if (part == MAP_PART)
+        return map_of(state);
+    return part == LANGUAGE_PART ? language_of(state) : load64(state + TABLES_AT + HOLDING * (part - CDS_PART));
 }
 
-uint64_t plain_offer(const uint8_t *state, size_t state_length, uint8_t *store, size_t store_length, const uint8_t *section,
-                     size_t section_length, uint32_t part) {
+uint64_t plain_offer(const uint8_t *state, size_t state_length, uint8_t *store, size_t store_length,
+                     const uint8_t *section, size_t section_length, uint32_t part) {
     (void)state_length;         /* a state is always STATE bytes */
     struct receiver receiver;
     uint32_t refusal = plain_receiver_from(&receiver, state, store_length);
     if (refusal)
-        return part > DCM_PART ? (uint64_t)refusal << 8 : part_before(state, part);
+        return part >= ANSWER_PART ? (uint64_t)refusal << 8 : part_before(state, part);
     struct answer answer = plain_offer_section(&receiver, store, section, section_length);
-    return part > DCM_PART ? answer.kind | answer.value << 8 : part_of(&receiver, part);
+    return part >= ANSWER_PART ? answer.kind | answer.value << 8 : part_of(&receiver, part);
 }

@@ -2,8 +2,7 @@
 #ifndef PLAIN_TEXT_H
 #define PLAIN_TEXT_H
 
-#include <stdint.h>
-#include <string.h>
+#include "receiver.h"
 
 /* The size is a constant, so that short texts become a few stores. */
 #define PUT(at, text) put_bytes((at), (text), sizeof(text) - 1)
@@ -52,6 +51,11 @@ static inline uint8_t *put_long_number(uint8_t *at, uint64_t n) {
     for (uint32_t rest = (uint32_t)(n % 1000000000), power = 100000000; power > 0; power /= 10)
         at = put_digit(at, rest / power % 10);
     return at;
+}
+
+/* Of a table that is live, or that it isn't. */
+static inline uint8_t *put_version(uint8_t *at, const struct holding *h) {
+    return h->live ? put_number(at, h->live_version) : PUT(at, "none");
 }
 
 #endif

@@ -32,7 +32,7 @@ static inline uint32_t symbols(const uint8_t *record) {
 
 /* The same interface as trial_check (1, 2, 15 or 16, or 0) and trial_tune (three parts of an answer). */
 uint8_t plain_check(const uint8_t *state, size_t state_length, const uint8_t *store, size_t store_length);
-uint64_t plain_tune(const uint8_t *state, size_t state_length, const uint8_t *store, size_t store_length, uint16_t channel,
-                    uint32_t part);
+uint64_t plain_tune(const uint8_t *state, size_t state_length, const uint8_t *store, size_t store_length,
+                    uint16_t channel, uint32_t part);
 
 #endif

@@ -1,17 +1,21 @@
-/* The walks over the records of the four tables, front to back, each record taken whole: 8 before 9 before 10. A walk also
-   finds the record that is wanted, in the same pass; where nothing is wanted (a constant) the compiler leaves the search out.
+/* The walks over the records of the five tables, front to back, each record taken whole: 8 before 9 before 10. A walk
+   also finds the record that is wanted, in the same pass; where nothing is wanted (a constant) the compiler leaves the
+   search out.
 
-   `end` is where the CRC begins. Its four bytes can be read like any others, so that a length byte behind the last whole
-   descriptor is looked at before the room for it: whatever it says, the descriptor doesn't fit. */
+   `end` is where the CRC begins. Its four bytes can be read like any others, so that a length byte behind the last
+   whole descriptor is looked at before the room for it: whatever it says, the descriptor doesn't fit. The same goes for
+   the length of a name, and for the length of a block behind the last whole one of its name. */
 #ifndef PLAIN_WALK_H
 #define PLAIN_WALK_H
 
 #include "bytes.h"
 #include "section.h"
 
-enum { NOTHING_WANTED = 0x10000 };
+/* An index, a channel, or what wanted_name gives; these are below it. */
+enum { NOTHING_WANTED = 0x1000000 };
 
-/* `at` goes from a record to the next one; record is the wanted one, or null; behind counts from its first index or channel. */
+/* `at` goes from a record to the next one; record is the wanted one, or null; behind counts from its first index or
+   channel. */
 struct walk {
     const uint8_t *at, *end;
     const uint8_t *record;
@@ -39,12 +43,14 @@ static inline int pass_record(struct walk *w, size_t size) {
     return descriptors == 0 || pass_descriptors(w, descriptors);
 }
 
-/* What is refused of a record behind which the descriptor count is missing, by what was found of its bits and values. */
+/* What is refused of a record behind which the descriptor count is missing, by what was found of its bits and
+   values. */
 static inline uint32_t without_count(uint32_t refusal) {
     return refusal ? refusal : 8;
 }
 
-/* `left` is how many indices there are from this record on, so that "carriers 0" and "an index above 255" are one test. */
+/* `left` is how many indices there are from this record on, so that "carriers 0" and "an index above 255" are one
+   test. */
 static inline uint32_t refusal_of_carriers(const uint8_t *record, uint32_t left) {
     if (record[1] & 0x40)
         return 9;
@@ -72,8 +78,8 @@ static inline uint32_t walk_cds(struct walk *w, const uint8_t *section, uint32_t
 }
 
 /* A mode record's first byte, system and inner coding: whether both are assigned. */
-#define CODINGS_OF(system)                                                                                                \
-    [16 * system] = 1, [16 * system + 1] = 1, [16 * system + 3] = 1, [16 * system + 5] = 1, [16 * system + 7] = 1,        \
+#define CODINGS_OF(system)                                                                                         \
+    [16 * system] = 1, [16 * system + 1] = 1, [16 * system + 3] = 1, [16 * system + 5] = 1, [16 * system + 7] = 1, \
     [16 * system + 8] = 1, [16 * system + 9] = 1, [16 * system + 11] = 1, [16 * system + 15] = 1
 static const uint8_t is_assigned[256] = {CODINGS_OF(0), CODINGS_OF(2), CODINGS_OF(3), CODINGS_OF(4)};
 enum { MOST_FORMAT = 24 };
@@ -101,7 +107,8 @@ static inline uint32_t walk_mms(struct walk *w, const uint8_t *section, uint32_t
     return 0;
 }
 
-/* Zero bits, and the type's upper bits, which are a value; a plain digital record has none of them and no transport bit. */
+/* Zero bits, and the type's upper bits, which are a value; a plain digital record has none of them and no transport
+   bit. */
 static inline uint32_t refusal_of_channel(const uint8_t *record) {
     uint32_t front = load32(record);
     if (!(front & bits_of_bytes(0xF0, 0, 0x40 | 0x10 | 0x0E, 0)))
@@ -114,8 +121,9 @@ static inline uint32_t refusal_of_channel(const uint8_t *record) {
     return (record[2] & 0x0F) > 1 || (analogue && (record[6] & 0x0F) > 4) ? 10 : 0;
 }
 
-static inline void match_channel(struct walk *w, uint32_t wanted) {
-    if (wanted != NOTHING_WANTED && word(w->at) == wanted && !w->record)
+/* The first of the records that match. */
+static inline void match(struct walk *w, uint32_t wanted, uint32_t here) {
+    if (wanted != NOTHING_WANTED && here == wanted && !w->record)
         w->record = w->at;
 }
 
@@ -126,7 +134,7 @@ static inline uint32_t walk_bare_channels(struct walk *w, uint32_t records, uint
         uint32_t refusal = refusal_of_channel(w->at);
         if (refusal)
             return refusal;
-        match_channel(w, wanted);
+        match(w, wanted, word(w->at));
     }
     return walked < records ? 8 : 0;
 }
@@ -138,7 +146,7 @@ static inline uint32_t walk_listed_channels(struct walk *w, uint32_t records, ui
         uint32_t refusal = refusal_of_channel(w->at);
         if (refusal)
             return refusal;
-        match_channel(w, wanted);
+        match(w, wanted, word(w->at));
         if (!pass_record(w, VCM_RECORD + 1))
             return 8;
     }
@@ -172,6 +180,55 @@ static inline uint32_t walk_dcm(struct walk *w, const uint8_t *section, uint32_t
         ahead -= channels;
     }
     return walked < ranges ? 8 : 0;
+}
+
+/* Table 7.3: what stands behind the first byte of a block. */
+enum block { RESERVED_MODE, ALONE, MEASURED, EVENLY_MEASURED };
+static const uint8_t blocks[256] = {
+    [0x00 ... 0x06] = MEASURED, [0x09 ... 0x10] = MEASURED, [0x20 ... 0x27] = MEASURED, [0x30 ... 0x33] = MEASURED,
+    [0x3F] = EVENLY_MEASURED,   [0x40 ... 0x9F] = ALONE,    [0xA0 ... 0xFF] = MEASURED,
+};
+
+/* Blocks that fill the name exactly, one at least: in an empty name there is no room for any. */
+static inline int is_text(const uint8_t *at, const uint8_t *end) {
+    do {
+        uint32_t block = blocks[*at];
+        size_t size = block == ALONE ? 1 : 2 + (size_t)at[1];
+        if (block == RESERVED_MODE || (block == EVENLY_MEASURED && size & 1) || size > (size_t)(end - at))
+            return 0;
+        at += size;
+    } while (at < end);
+    return 1;
+}
+
+/* `size` is that of the record with its name. */
+static inline uint32_t refusal_of_name(const uint8_t *record, size_t size) {
+    if (record[0] & 0x7F)
+        return 9;
+    return is_text(record + NTT_RECORD, record + size) ? 0 : 10;
+}
+
+/* Flag and number of a record of names, or of the channel whose name is wanted, by one load from the flag on. */
+static inline uint32_t wanted_name(const uint8_t *flag) {
+    return load32(flag) & bits_of_bytes(0x80, 0xFF, 0xFF, 0);
+}
+
+static inline uint32_t walk_ntt(struct walk *w, const uint8_t *section, uint32_t wanted) {
+    if (room(w) < NTT_HEAD)
+        return 8;
+    w->at += NTT_HEAD;
+    for (uint32_t records = section[NAMES_HEADER]; records > 0; records--) {
+        size_t size = NTT_RECORD + (size_t)w->at[3];
+        if (room(w) < size + 1)
+            return room(w) < size ? 8 : without_count(refusal_of_name(w->at, size));
+        uint32_t refusal = refusal_of_name(w->at, size);
+        if (refusal)
+            return refusal;
+        match(w, wanted, wanted_name(w->at));
+        if (!pass_record(w, size + 1))
+            return 8;
+    }
+    return 0;
 }
 
 #endif
