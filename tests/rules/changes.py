@@ -7,7 +7,7 @@ Parts.antt and Growth.antt what their relations ask; signatures, patterns, comme
     compared     leb for ltb and the other way round; eqb loosened to leb, either way round
     operand      of && and || one side alone
     turned       `not` left out
-    tested       what cond, unless or needs tests taken for true, and for false
+    tested       what cond, unless, needs or wants tests taken for true, and for false
     order        two checks that follow each other changed about
     operator     + for -, * for +, / for % and the other way round, ^ for *
     field        a field of a struct for its neighbour of the same type
@@ -26,7 +26,7 @@ DECLARED = re.compile(r"^ *(?:unfoldable|abbrev) pub (?!use )(?P<name>\S+)|^ *pu
 RELATIONS = ("Parts", "Growth")
 OPERATORS = {"+": "-", "-": "+", "*": "+", "/": "%", "%": "/", "^": "*"}
 COMPARED = {"leb": "ltb", "ltb": "leb"}
-TESTED = {"cond", "unless", "needs"}
+TESTED = {"cond", "unless", "needs", "wants"}
 ENDS = {";", ",", "∷", "++", "≡", "→", "in", "&&", "||", "=", "×"}
 NEIGHBOURS = {
     "Cds": "Mms", "Mms": "Vcm", "Vcm": "Dcm", "Dcm": "Ntt", "Ntt": "Cds", "true": "false", "false": "true", "OtherMap": "Repeat",

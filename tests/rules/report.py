@@ -23,18 +23,19 @@ HEAD = """# Changed rules
 
 What `tests/rules/try` last said. It makes small changes of the rules (`crates/rules/specs`), one at a time, and asks the prover of each whether the
 computed facts still hold: those of `crates/examples` and, in `crates/rules/proofs`, `Examples` and `Readings`. It tries them on a copy that has the
-rules and these facts alone, so that no proof script that merely breaks counts as a refusal. `Offering`, `Answered`, `Runs`, `InParts`, `Formed` and `Sent` are
-words of theorems and no rules: of them only the two definitions that compute are tried. A change that is *no rule* takes a neighbour of another type,
-so that the text is no definition. One that is *alike* is refused by no fact because it means the same; the reasons are below. A run can be continued
-(`--left`): what was refused before is then not tried again.
+rules and these facts alone, so that no proof script that merely breaks counts as a refusal. `Offering`, `Answered`, `Labelling`, `Runs`, `InParts`, `Formed`
+and `Sent` are words of theorems and no rules: of them only the three definitions that compute are tried. A change that is *no rule* takes a neighbour of
+another type, so that the text is no definition. One that is *alike* is refused by no fact because it means the same; the reasons are below. A run can be
+continued (`--left`): what was refused before is then not tried again.
 
 """
 
 
 def alike_list(folder):
-    """tests/rules/alike.txt: a reason in a line that begins with '# ', and below it the changes that it goes for."""
+    """tests/rules/alike.txt: a reason in a line that begins with '# ', and below it the changes that it goes for. A line that begins with two spaces
+    goes on with the one above it."""
     reasons, reason = {}, None
-    for line in (folder / "alike.txt").read_text(encoding="utf-8").splitlines():
+    for line in (folder / "alike.txt").read_text(encoding="utf-8").replace("\n  ", " ").splitlines():
         if line.startswith("# "):
             reason = line[2:]
         elif line.strip():
