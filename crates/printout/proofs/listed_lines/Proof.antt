@@ -17,6 +17,9 @@ Inv-loop state store ranges channels carriers modes labels out₀ lines₀ numbe
 abbrev μ-loop : tie.MeasureT-loop
 μ-loop state store ranges channels carriers modes labels out₀ lines₀ number₀ out lines number = 4096 - number
 
+loop-holds : tie.Need-loop-holds Inv-loop μ-loop
+loop-holds c = let a = c .before .before .before .before .before .before .args in (omega arith, refl, below-0 _ _ (now (a .out)))
+
 add-line-requires : tie.Need-add-line-requires Inv-loop μ-loop
 add-line-requires c κs =
     let l = c .before .before .loop .inv in
@@ -38,6 +41,5 @@ returns c =
     rw e at (l .inv .2)
 
 pub listed-lines-spec : {M : Type 1} → statement M
-listed-lines-spec = tie.close (tie.spec Inv-loop μ-loop
-    (λ c. let a = c .before .before .before .before .before .before .args in (omega arith, refl, below-0 _ _ (now (a .out))))
-    add-line-requires (λ c. search needs) (λ c. search needs) loop-again (λ c. c .before .loop .inv .1) returns)
+listed-lines-spec = tie.close (tie.spec Inv-loop μ-loop loop-holds add-line-requires (λ c. search needs) (λ c. search needs) loop-again
+    (λ c. c .before .loop .inv .1) returns)
