@@ -132,6 +132,10 @@ module _ (s : State) (store : List ℕ) (t : Table) (test : Numbered (RecordOf t
       here k = rw e (sym k)
 
   module _ {included start i left index : ℕ} {b : List ℕ} {at later : ℕ} (w : Inside included start i left index b at later) where
+    -- a layout that doesn't ask for the included bit is the same with any
+    pub any-bit : layoutOf t included ≡ layoutOf t 0 → Inside 0 start i left index b at later
+    any-bit e = record { low = w .low; rs = w .rs; rest = w .rest; reads = rw (← e) (w .reads); is = rw (← e) (w .is) }
+
     -- and out of it, where no record is left
     pub go-out : left ≤ 0 → Outside (i + 1) later
     unfolding standing

@@ -3,18 +3,13 @@
 // What is found is an entry, a number that says where in the store the record stands; what the record says is read there.
 ghost use mathlib.Core.Path.{_≡_};
 ghost use Prim.Native.Nat.{_+_, _-_, _*_, _%_, _^_, _≤_, _<_};
-ghost use lib.ListN.{length};
 ghost use Rattle.rules.specs.Bytes.{from};
-ghost use Rattle.rules.specs.Descriptors.{counted};
-ghost use Rattle.rules.specs.Layout.{extent};
 ghost use Rattle.rules.specs.Tables.{inKhz, carrierKhz};
 ghost use Rattle.rules.specs.Section.{withoutCrc};
 ghost use Rattle.rules.specs.Holding.{sectionAt, liveAt};
 ghost use Rattle.rules.specs.Tuning.{covers, definedBy};
 ghost use Rattle.rules.specs.Label.{isName};
 ghost use Rattle.rules.specs.declared.Table.the-variants as table;
-ghost use Rattle.fields.specs.Place.{Stands};
-ghost use Rattle.fields.specs.Outline.{layoutOf};
 ghost use Rattle.search.specs.Entries.{Live, outlineIn, spanOf, recordNamed, entryBy, entryOf};
 ghost use Rattle.search.specs.Found.{carrierFound, modeFound, channelFound, labelNamed, Brief};
 use fields::Outline;
@@ -119,20 +114,6 @@ fn covered(first: u32, n: u8, x: u32) -> bool
     x - first < n as u32
 }
 
-// Over the record at a place, which is there whole, and its descriptors.
-fn past_record(t: Table, b: &[u8], at: usize, included: u8) -> Skip
-    requires { ⌜ extent (layoutOf t included .block) (from (now b) at) ≤ length (now b) - at ⌝ }
-    ensures { λ r. ⌜ Stands (now (b .entry)) r (counted (layoutOf t included .described) (from (now (b .entry)) (at + extent (layoutOf t included .block) (from (now (b .entry)) at)))) ⌝ }
-{
-    match t {
-        Table::Cds => fields::past_counted(b, at + cds::SIZE, true),
-        Table::Mms => fields::past_counted(b, at + mms::SIZE, true),
-        Table::Vcm => fields::past_counted(b, at + vcm::SIZE, included == 1),
-        Table::Dcm => fields::past_counted(b, at + dcm::SIZE, false),
-        Table::Ntt => fields::past_counted(b, at + ntt::name_size(b, at), true),
-    }
-}
-
 // ---- the search
 
 // The entry of a record: one more than its place in the store, and above 32 bits its index.
@@ -159,7 +140,7 @@ pub fn carrier_entry(s: State, store: &[u8], number: u16) -> u64
         let mut at = walk.at;
         let mut index = walk.first as u32;
         for k in 0..walk.count {
-            let Skip::At(next) = past_record(Table::Cds, b, at, walk.included) else {
+            let Skip::At(next) = fields::past_counted(b, at + cds::SIZE, true) else {
                 break;
             };
             let span = span_of(Table::Cds, b, at, index);
@@ -187,7 +168,7 @@ pub fn mode_entry(s: State, store: &[u8], number: u16) -> u64
         let mut at = walk.at;
         let mut index = walk.first as u32;
         for k in 0..walk.count {
-            let Skip::At(next) = past_record(Table::Mms, b, at, walk.included) else {
+            let Skip::At(next) = fields::past_counted(b, at + mms::SIZE, true) else {
                 break;
             };
             let span = span_of(Table::Mms, b, at, index);
@@ -214,7 +195,7 @@ pub fn channel_entry(s: State, store: &[u8], number: u16) -> u64
         let walk = outline_in(vcm::outline(b));
         let mut at = walk.at;
         for k in 0..walk.count {
-            let Skip::At(next) = past_record(Table::Vcm, b, at, walk.included) else {
+            let Skip::At(next) = fields::past_counted(b, at + vcm::SIZE, walk.included == 1) else {
                 break;
             };
             if vcm::number_of(&b[at..at + vcm::SIZE]) == number {
@@ -240,7 +221,7 @@ pub fn range_entry(s: State, store: &[u8], number: u16) -> u64
         let mut at = walk.at;
         let mut index = walk.first as u32;
         for k in 0..walk.count {
-            let Skip::At(next) = past_record(Table::Dcm, b, at, walk.included) else {
+            let Skip::At(next) = fields::past_counted(b, at + dcm::SIZE, false) else {
                 break;
             };
             let span = span_of(Table::Dcm, b, at, index);
@@ -267,7 +248,7 @@ pub fn name_entry(s: State, store: &[u8], application: u8, number: u16) -> u64
         let walk = outline_in(ntt::outline(b));
         let mut at = walk.at;
         for k in 0..walk.count {
-            let Skip::At(next) = past_record(Table::Ntt, b, at, walk.included) else {
+            let Skip::At(next) = fields::past_counted(b, at + ntt::name_size(b, at), true) else {
                 break;
             };
             if ntt::is_name(fields::part(b, at, ntt::FRONT), application, number) {

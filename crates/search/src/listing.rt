@@ -1,9 +1,12 @@
 // The entries of all numbers at once: a line-up asks every number, so it pays for one walk over a table's records instead of a search
 // for each number.
 ghost use mathlib.Core.Path.{_≡_};
-ghost use Prim.Native.Nat.{_<_};
+ghost use Prim.Native.Nat.{_+_, _-_, _≤_, _<_};
 ghost use lib.ListN.{length};
 ghost use Rattle.rules.specs.Bytes.{from};
+ghost use Rattle.rules.specs.Descriptors.{counted};
+ghost use Rattle.rules.specs.Layout.{extent};
+ghost use Rattle.fields.specs.Place.{Stands};
 ghost use Rattle.fields.specs.Outline as rule;
 ghost use Rattle.search.specs.Entries.{Live, outlineIn};
 ghost use Rattle.search.specs.Listing.{Lists, Blank, Marked, Entered};
@@ -59,6 +62,20 @@ fn outline_of(t: Table, b: &[u8]) -> Outline
     }
 }
 
+// Over the record at a place, which is there whole, and its descriptors.
+fn past_record(t: Table, b: &[u8], at: usize, included: u8) -> Skip
+    requires { ⌜ extent (rule.layoutOf t included .block) (from (now b) at) ≤ length (now b) - at ⌝ }
+    ensures { λ r. ⌜ Stands (now (b .entry)) r (counted (rule.layoutOf t included .described) (from (now (b .entry)) (at + extent (rule.layoutOf t included .block) (from (now (b .entry)) at)))) ⌝ }
+{
+    match t {
+        Table::Cds => fields::past_counted(b, at + cds::SIZE, true),
+        Table::Mms => fields::past_counted(b, at + mms::SIZE, true),
+        Table::Vcm => fields::past_counted(b, at + vcm::SIZE, included == 1),
+        Table::Dcm => fields::past_counted(b, at + dcm::SIZE, false),
+        Table::Ntt => fields::past_counted(b, at + ntt::name_size(b, at), true),
+    }
+}
+
 // The entry of every number that `entries` has room for.
 pub fn list_records(s: State, store: &[u8], t: Table, entries: &mut [u64])
     requires { ⌜ Live s (now store) t ⌝ }
@@ -75,7 +92,7 @@ pub fn list_records(s: State, store: &[u8], t: Table, entries: &mut [u64])
         let mut at = walk.at;
         let mut index = walk.first as u32;
         for k in 0..walk.count {
-            let Skip::At(next) = crate::past_record(t, b, at, walk.included) else {
+            let Skip::At(next) = past_record(t, b, at, walk.included) else {
                 break;
             };
             let takes = list_one(entries, t, b, at, index, start + at);

@@ -45,14 +45,14 @@ loop2-holds c =
     (one-of _ _ _ e (p .before .loop-test .taken)) _ _ _ (c .before .before .live-bytes .ensures)
     (c .outline-in .ensures ∙ ap outlineIn (c .before .outline .ensures)) (p .place-of .ensures ∙ live-place _ _ _ e))
 
-past-record-requires : tie.Need-past-record-requires Inv-loop2 μ-loop2 Inv-loop μ-loop
+add-past-counted : tie.Need-add-past-counted Inv-loop2 μ-loop2 Inv-loop μ-loop
 unfolding vcm
-past-record-requires c κs = fits _ _ _ _ (c .before .loop2 .inv) (omega arith)
+add-past-counted c = omega (arith, fits _ _ _ _ (c .before .loop2 .inv) (omega arith))
 
 entry-at-requires : tie.Need-entry-at-requires Inv-loop2 μ-loop2 Inv-loop μ-loop
 unfolding vcm
 entry-at-requires c κs =
-    let w = c .before .before .before .before .before .before .before .before in
+    let w = c .before .before .before .before .before .before .before .before .before in
     omega (arith, small _ _ _ _ (w .before .loop2 .inv) (omega (arith, w .loop2-test .taken)))
 
 returns : tie.Need-returns Inv-loop2 μ-loop2 Inv-loop μ-loop
@@ -60,8 +60,8 @@ unfolding vcm
 returns c =
     let f = c .before .before .before in
     let p = f .before .before .before .before .before in
-    let w = p .before in
-    let g = at-got _ _ _ (p .past-record .ensures) _ (f .before .before .before .next .given .1) .1 in
+    let w = p .before .before in
+    let g = at-got _ _ _ (p .past-counted .ensures) _ (f .before .before .before .next .given .1) .1 in
     c .entry-at .ensures ∙ match _ _ _ _ (w .before .loop2 .inv) _ (omega (arith, w .loop2-test .taken))
     (channel-goes _ _ _ _ (f .number-of .ensures) ∙ eq-eqb _ _ (c .before .before .if1 .taken)) g
 
@@ -70,8 +70,8 @@ unfolding vcm
 loop2-again c =
     let f = c .before in
     let p = f .before .before .before .before .before in
-    let w = p .before in
-    let g = at-got _ _ _ (p .past-record .ensures) _ (f .before .before .before .next .given .1) .1 in
+    let w = p .before .before in
+    let g = at-got _ _ _ (p .past-counted .ensures) _ (f .before .before .before .next .given .1) .1 in
     pass _ _ _ _ (w .before .loop2 .inv) (omega (arith, w .loop2-test .taken)) (sym (add-zero _)) (channel-takes _ 0 _ _) g
     (channel-goes _ _ _ _ (f .number-of .ensures) ∙ ne-eqb _ _ (c .if1 .left))
 
@@ -80,7 +80,7 @@ unfolding vcm
 loop-again c =
     ⊎-elim
     (λ w. go-out _ _ _ _ (c .before .loop2 .inv) (omega arith))
-    (λ w. absurd (never _ _ _ _ (c .before .loop2 .inv) (omega arith) (at-no _ _ _ (w .1 .ensures) _ (w .3 .given .1))))
+    (λ w. absurd (never _ _ _ _ (c .before .loop2 .inv) (omega arith) (at-no _ _ _ (w .2 .ensures) _ (w .4 .given .1))))
     (c .loop2-test .came)
 
 returns-2 : tie.Need-returns-2 Inv-loop2 μ-loop2 Inv-loop μ-loop
@@ -92,12 +92,12 @@ pub channel-entry-spec : {M : Type 1} → statement M
 unfolding vcm
 channel-entry-spec = tie.close (tie.spec Inv-loop2 μ-loop2 Inv-loop μ-loop (λ c κs. search needs) (λ c. search needs) (λ c. search needs) loop-holds
     (λ c. search needs) (λ c κs. search needs) (λ c. search needs) (λ c κs. search needs) (λ c κs. search needs) (λ c κs. search needs) loop2-holds
-    past-record-requires (λ c. search needs) (λ c. search needs)
-    (λ c. let w = c .before .before .before .before in omega (arith, fits _ _ _ _ (w .before .loop2 .inv) (omega (arith, w .loop2-test .taken))))
+    add-past-counted (λ c κs. search needs) (λ c. search needs) (λ c. search needs)
+    (λ c. let w = c .before .before .before .before .before in omega (arith, fits _ _ _ _ (w .before .loop2 .inv) (omega (arith, w .loop2-test .taken))))
     (λ c. search needs) (λ c. search needs)
-    (λ c. let w = c .before .before .before .before in omega (arith, fits _ _ _ _ (w .before .loop2 .inv) (omega (arith, w .loop2-test .taken))))
+    (λ c. let w = c .before .before .before .before .before in omega (arith, fits _ _ _ _ (w .before .loop2 .inv) (omega (arith, w .loop2-test .taken))))
     (λ c κs. search needs)
-    (λ c. let w = c .before .before .before .before .before .before .before in
+    (λ c. let w = c .before .before .before .before .before .before .before .before in
     omega (arith, small _ _ _ _ (w .before .loop2 .inv) (omega (arith, w .loop2-test .taken))))
     (λ c. search needs) entry-at-requires returns (λ c. search needs) (λ c. search needs) loop2-again
     (λ c. let l = c .before .before .before .before .before .before in omega (arith, l .loop-test .taken, l .before .before .struct-known .given))

@@ -5,21 +5,22 @@ use mathlib.Core.Path.{refl, sym, ap, _∙_}
 use mathlib.Core.Logic.{⊎-elim}
 use denote.Ref.{now}
 use borrow.Author.Needs.{needs}
+use Rattle.rules.specs.Tables.{mms}
 use Rattle.rules.specs.Tuning.{isMode}
 use Rattle.rules.specs.declared.Table.the-variants.{Mms}
 use Rattle.fields.proofs.Laws.{at-got, at-no}
 use Rattle.search.specs.{Entries.outlineIn, Entries.entryOf, declared.Span.Span}
 use Rattle.search.proofs.Sections.{one-of, behind-all, live-place}
-use Rattle.search.proofs.Entries.{Outside, Inside, set-off, none-left, go-in, go-out, fits, small, never, match, pass}
+use Rattle.search.proofs.Entries.{Outside, Inside, set-off, none-left, go-in, any-bit, go-out, fits, small, never, match, pass}
 use Rattle.search.proofs.mode_entry.Statement.{statement}
 use Rattle.search.proofs.mode_entry.Tie as tie
 
 abbrev Inv-loop2 : tie.InvT-loop2
-Inv-loop2 s store number h sections i start b walk at₀ index₀ k₀ k-end at index k =
-    Inside s store Mms (isMode number) (walk .included) start i (k-end - k) index b at (entryOf s store Mms number) × (index ≤ 65535 + 255 * k)
+Inv-loop2 s store number h sections i start b at₀ index₀ k₀ k-end at index k =
+    Inside s store Mms (isMode number) 0 start i (k-end - k) index b at (entryOf s store Mms number) × (index ≤ 65535 + 255 * k)
 
 abbrev μ-loop2 : tie.MeasureT-loop2
-μ-loop2 s store number h sections i start b walk at₀ index₀ k₀ k-end at index k = k-end - k
+μ-loop2 s store number h sections i start b at₀ index₀ k₀ k-end at index k = k-end - k
 
 abbrev Inv-loop : tie.InvT-loop
 Inv-loop s store number h sections i₀ i = Outside s store Mms (isMode number) i (entryOf s store Mms number)
@@ -38,14 +39,15 @@ loop2-holds c =
     let g = l .before .before in
     let a = g .before .before in
     let e = g .holding-of .ensures in (
-      rw sub-zero (go-in (a .args .s) (now (a .args .store)) Mms (isMode (a .args .number)) (a .pre) (l .loop .inv)
+      rw sub-zero (any-bit _ _ _ _ (go-in (a .args .s) (now (a .args .store)) Mms (isMode (a .args .number)) (a .pre) (l .loop .inv)
           (one-of _ _ _ e (p .before .loop-test .taken)) _ _ _ (o .before .before .live-bytes .ensures)
-          (o .outline-in .ensures ∙ ap outlineIn (o .before .outline .ensures)) (p .place-of .ensures ∙ live-place _ _ _ e)),
+          (o .outline-in .ensures ∙ ap outlineIn (o .before .outline .ensures)) (p .place-of .ensures ∙ live-place _ _ _ e)) refl),
       omega (arith, c .struct-known2 .given),
     )
 
-past-record-requires : tie.Need-past-record-requires Inv-loop2 μ-loop2 Inv-loop μ-loop
-past-record-requires c κs = fits _ _ _ _ (c .before .loop2 .inv .0) (omega arith)
+add-past-counted : tie.Need-add-past-counted Inv-loop2 μ-loop2 Inv-loop μ-loop
+unfolding mms
+add-past-counted c = omega (arith, fits _ _ _ _ (c .before .loop2 .inv .0) (omega arith))
 
 entry-at-requires : tie.Need-entry-at-requires Inv-loop2 μ-loop2 Inv-loop μ-loop
 entry-at-requires c κs =
@@ -53,20 +55,22 @@ entry-at-requires c κs =
     omega (arith, small _ _ _ _ (w .before .loop2 .inv .0) (omega (arith, w .loop2-test .taken)))
 
 returns : tie.Need-returns Inv-loop2 μ-loop2 Inv-loop μ-loop
+unfolding mms
 returns c =
     let f = c .before .before in
     let p = f .before .before .before .before .before in
     let w = p .before in
-    let g = at-got _ _ _ (p .past-record .ensures) _ (f .before .before .before .next .given .1) .1 in
+    let g = at-got _ _ _ (p .past-counted .ensures) _ (f .before .before .before .next .given .1) .1 in
     c .entry-at .ensures ∙ match _ _ _ _ (w .before .loop2 .inv .0) _ (omega (arith, w .loop2-test .taken))
     (rw (f .before .span-of .ensures) at (sym (f .covered .ensures) ∙ c .before .if1 .taken)) g
 
 loop2-again : tie.Need-loop2-again Inv-loop2 μ-loop2 Inv-loop μ-loop
+unfolding mms
 loop2-again c =
     let f = c .before .before in
     let p = f .before .before .before .before .before in
     let w = p .before in
-    let g = at-got _ _ _ (p .past-record .ensures) _ (f .before .before .before .next .given .1) .1 in
+    let g = at-got _ _ _ (p .past-counted .ensures) _ (f .before .before .before .next .given .1) .1 in
     let e = f .before .span-of .ensures in (
       pass _ _ _ _ (w .before .loop2 .inv .0) (omega (
         arith,
@@ -76,6 +80,7 @@ loop2-again c =
     )
 
 loop-again : tie.Need-loop-again Inv-loop2 μ-loop2 Inv-loop μ-loop
+unfolding mms
 loop-again c =
     ⊎-elim
     (λ w. go-out _ _ _ _ (c .before .loop2 .inv .0) (omega arith))
@@ -89,7 +94,7 @@ returns-2 c =
 pub mode-entry-spec : {M : Type 1} → statement M
 mode-entry-spec = tie.close (tie.spec Inv-loop2 μ-loop2 Inv-loop μ-loop (λ c κs. search needs) (λ c. search needs) (λ c. search needs) loop-holds
     (λ c. search needs) (λ c κs. search needs) (λ c. search needs) (λ c κs. search needs) (λ c κs. search needs) (λ c κs. search needs)
-    (λ c. search needs) loop2-holds past-record-requires (λ c. search needs) (λ c. search needs) (λ c κs. search needs) (λ c κs. search needs)
+    (λ c. search needs) loop2-holds add-past-counted (λ c κs. search needs) (λ c. search needs) (λ c. search needs) (λ c κs. search needs) (λ c κs. search needs)
     (λ c. let w = c .before .before .before .before .before .before .before in
     omega (arith, small _ _ _ _ (w .before .loop2 .inv .0) (omega (arith, w .loop2-test .taken))))
     entry-at-requires returns (λ c. search needs)

@@ -7,8 +7,8 @@ use Rattle.rules.specs.{Bytes.from, Descriptors.counted, Layout.extent, declare
 use Rattle.rules.specs.Tables.{cds, mms, vcm, dcm, ntt}
 use Rattle.rules.specs.declared.Table.the-variants as table
 use Rattle.fields.specs.{Place.Stands, Outline.layoutOf, declared.Skip.Skip}
-use Rattle.search.proofs.past_record.Statement.{statement}
-use Rattle.search.proofs.past_record.Tie as tie
+use Rattle.search.proofs.listing.past_record.Statement.{statement}
+use Rattle.search.proofs.listing.past_record.Tie as tie
 
 past-as : (t u : Table) → t ≡ u → (included at : ℕ) (b : List ℕ) (r : Skip)
     → Stands b r (counted (layoutOf u included .described) (from b (at + extent (layoutOf u included .block) (from b at))))
