@@ -1,13 +1,13 @@
--- Assigned values as bits of a number: bit x is 1 exactly if x is in the list. Tried at each of the 16 values that a field of four
--- bits can have; a list of such values holds no higher one.
-use Prim.Native.Nat.{ℕ, _/_, _%_, _^_, _<_}
-use native.Mathlib.Omega.{arith}
-use mathlib.Core.{Path._≡_, Path.refl, Path.sym, List.List, List.[], List._∷_}
-use mathlib.Core.Bool.{Bool, true, false, _&&_}
-use lib.Dec.{eqb, leb}
-use borrow.Author.Tests.{leb-true, ne-eqb}
+-- The rows of the code and the rule of their field agree: one test, tried at every value that a byte can have, so at every value of the
+-- field. The rows are taken from what is known of the search through them: they are written down in the code and nowhere else.
+use Prim.Native.Nat.{ℕ, _<_}
+use mathlib.Core.{Path._≡_, Path.refl, Path.sym, List.List}
+use mathlib.Core.Bool.{Bool, true, false}
 use Rattle.rules.specs.{Tables.among, Tuning.every}
-use Rattle.rules.proofs.{Taken.both-left, Taken.both-right, LivePlaces.every-at}
+use Rattle.rules.proofs.LivePlaces.{every-at}
+
+abbrev pub searched : {r : Bool} (x : ℕ) (rows : List ℕ) → r ≡ among x rows → List ℕ
+searched x rows e = rows
 
 abbrev alike : Bool → Bool → Bool
 alike true b = b
@@ -19,19 +19,11 @@ alike-same true b e = sym e
 alike-same false false e = refl
 alike-same false true e = e
 
-abbrev pub tells : (bits : ℕ) → List ℕ → ℕ → Bool
-tells bits l x = alike (eqb (bits / 2 ^ x % 2) 1) (among x l)
+abbrev tells : List ℕ → (ℕ → Bool) → ℕ → Bool
+tells rows rule x = alike (among x rows) (rule x)
 
-pub bit-told : (bits : ℕ) (l : List ℕ) → every 16 (tells bits l) ≡ true → (x : ℕ) → x < 16 → eqb (bits / 2 ^ x % 2) 1 ≡ among x l
-bit-told bits l e x h = alike-same (eqb (bits / 2 ^ x % 2) 1) (among x l) (every-at 16 (tells bits l) e x h)
+abbrev pub agree : List ℕ → (ℕ → Bool) → Bool
+agree rows rule = every 256 (tells rows rule)
 
-abbrev pub low : List ℕ → Bool
-low [] = true
-low (y ∷ ys) = leb y 15 && low ys
-
-pub none-higher : (x : ℕ) (l : List ℕ) → low l ≡ true → 15 < x → among x l ≡ false
-unfolding among
-none-higher x [] e h = refl
-none-higher x (y ∷ ys) e h =
-    let k = leb-true y 15 (both-left (leb y 15) (low ys) e) in
-    rw (ne-eqb x y (λ q. omega arith)) (none-higher x ys (both-right (leb y 15) (low ys) e) h)
+pub told : (rows : List ℕ) (rule : ℕ → Bool) → agree rows rule ≡ true → (x : ℕ) → x < 256 → among x rows ≡ rule x
+told rows rule e x h = alike-same (among x rows) (rule x) (every-at 256 (tells rows rule) e x h)

@@ -1,7 +1,8 @@
 // The modulation table, MMS: its record, and the way over its records. b is a section without its CRC.
 ghost use mathlib.Core.Path.{_≡_};
 ghost use mathlib.Core.Bool.{true, _&&_};
-ghost use Prim.Native.Nat.{_+_, _<_};
+ghost use Prim.Native.Nat.{ℕ, _+_, _≤_, _<_};
+ghost use lib.Dec.{leb};
 ghost use Rattle.rules.specs.Bytes.{from};
 ghost use Rattle.rules.specs.Layout.{entry, records};
 ghost use Rattle.rules.specs.Tables.{modeZeros, modeOf, among, systems, innerCodings, assigned, modeFair, mms};
@@ -13,6 +14,8 @@ use fields::Outline;
 use fields::Outlined;
 use fields::Skip;
 use rules::Mode;
+
+pub mod rows; // the assigned values, as the standard lists them
 
 // Bytes of a record.
 pub const SIZE: usize = 6;
@@ -55,24 +58,44 @@ pub fn mode_of(r: &[u8]) -> Mode
     }
 }
 
-// Table 5.7 of 003: 0, 2, 3 and 4, as bits.
+// Whether x is one of the rows: left at the first match. Counting down what is left, and not up to the end, is the form of which the
+// compiler makes one comparison or a test of bits where it knows the rows.
+fn among(rows: &[u8], x: u8) -> bool
+    ensures { λ r. ⌜ r ≡ among x (now (rows .entry)) ⌝ }
+{
+    let mut at: usize = 0;
+    let mut left = rows.len();
+    while 0 < left {
+        if rows[at] == x {
+            return true;
+        }
+        at += 1;
+        left -= 1;
+    }
+    false
+}
+
+// Each list is taken into a local once and lent: its name stands for a copy wherever it is written.
+
 fn system_assigned(x: u8) -> bool
     ensures { λ r. ⌜ r ≡ among x systems ⌝ }
 {
-    if 15 < x {
-        return false;
-    }
-    (0b1_1101u32 >> x) % 2 == 1
+    let rows = rows::SYSTEMS;
+    among(&rows, x)
 }
 
-// Table 5.8 of 003: 0, 1, 3, 5, 7, 8, 9, 11 and 15, as bits.
 fn inner_assigned(x: u8) -> bool
     ensures { λ r. ⌜ r ≡ among x innerCodings ⌝ }
 {
-    if 15 < x {
-        return false;
-    }
-    (0b1000_1011_1010_1011u32 >> x) % 2 == 1
+    let rows = rows::CODINGS;
+    among(&rows, x)
+}
+
+fn format_assigned(x: u8) -> bool
+    ensures { λ r. ⌜ r ≡ leb x 24 ⌝ }
+{
+    let rows = rows::FORMATS;
+    among(&rows, x)
 }
 
 // System, inner coding and format (Table 5.9) are assigned, and the index is at most 255: else 10.
@@ -81,10 +104,10 @@ fn mode_fair(index: u16, m: Mode) -> bool
 {
     if system_assigned(m.system) {
         if inner_assigned(m.inner) {
-            if 24 < m.format {
-                return false;
+            if format_assigned(m.format) {
+                return index <= 255;
             }
-            return index <= 255;
+            return false;
         }
         return false;
     }
@@ -115,22 +138,21 @@ fn is_assigned(r: &[u8]) -> bool
     let codings = fields::byte(r, 0);
     let format = fields::byte(r, 1);
     let symbols = fields::byte(r, 2);
-    // a zero bit and a format above 24 at once
-    if 24 < format % 128 {
-        return false;
-    }
     if 15 < symbols {
         return false;
     }
     if system_assigned(codings / 16) {
-        return inner_assigned(codings % 16);
+        if inner_assigned(codings % 16) {
+            // the zero bits and the format at once
+            return format_assigned(format % 128);
+        }
     }
     false
 }
 
-// Whether the record at a place is right and has no descriptors.
-fn is_plain(b: &[u8], at: usize, index: u32) -> bool
-    ensures { λ x. ⌜ (x ≡ true → Stands (now (b .entry)) (skip.At (at + 6 + 1)) (entry mms index (from (now (b .entry)) at))) ⌝ }
+// Whether the record at a place is right, at whatever index it may have, and has no descriptors.
+fn is_plain(b: &[u8], at: usize) -> bool
+    ensures { λ x. ⌜ (x ≡ true → (index : ℕ) → index ≤ 255 → Stands (now (b .entry)) (skip.At (at + 6 + 1)) (entry mms index (from (now (b .entry)) at))) ⌝ }
 {
     if fields::short(b, at, SIZE + 1) {
         return false;
@@ -138,22 +160,23 @@ fn is_plain(b: &[u8], at: usize, index: u32) -> bool
     if b[at + SIZE] != 0 {
         return false;
     }
-    if 255 < index {
-        return false;
-    }
     is_assigned(&b[at..at + SIZE])
 }
 
-// Over the records that are right and have no descriptors, as far as they go: the short way for what a plant mostly sends.
+// Over the records that are right and have no descriptors, as far as they go: the short way for what a plant mostly sends. A section that
+// goes past index 255 is refused: that is left to the other way.
 fn skim(b: &[u8], o: Outline) -> Outline
     requires { ⌜ 0 < o .count ⌝ }
     ensures { λ r. ⌜ Reaches mms (now (b .entry)) (o .at) (o .first) (o .count) (r .at) (r .first) (r .count) ⌝ }
 {
+    if 256 < o.first as u32 + o.count as u32 {
+        return o;
+    }
     let mut at = o.at;
-    let mut index = o.first as u32;
+    let mut index = o.first;
     let mut left = o.count;
     while 0 < left {
-        if !is_plain(b, at, index) {
+        if !is_plain(b, at) {
             break;
         }
         index = index + 1;
@@ -163,7 +186,7 @@ fn skim(b: &[u8], o: Outline) -> Outline
     Outline {
         at,
         map: o.map,
-        first: index as u16,
+        first: index,
         count: left,
         included: o.included,
     }

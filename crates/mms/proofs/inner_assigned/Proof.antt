@@ -1,15 +1,17 @@
--- The value's bit tells; there is no value above 15.
-use native.Mathlib.Omega.{arith}
-use mathlib.Core.Path.{refl, sym}
+-- The rows that are searched are those of the rule.
+use mathlib.Core.{Path._≡_, Path.refl, Path._∙_, Bool.true}
 use borrow.Author.Needs.{needs}
 use Rattle.rules.specs.{Tables.among, Tables.innerCodings, Tuning.every}
-use Rattle.mms.proofs.Laws.{bit-told, none-higher}
+use Rattle.mms.proofs.Laws.{searched, agree, told}
 use Rattle.mms.proofs.inner_assigned.Statement.{statement}
 use Rattle.mms.proofs.inner_assigned.Tie as tie
 
-pub inner-assigned-spec : {M : Type 1} → statement M
+tested : (c : tie.After-among) → agree (searched _ _ (c .among .ensures)) (λ x. among x innerCodings) ≡ true
 unfolding innerCodings among every
-inner-assigned-spec = tie.close (tie.spec
-    (λ c. sym (none-higher (c .before .args .x) innerCodings refl (c .if1 .taken)))
-    (λ c. search needs)
-    (λ c. bit-told 35755 innerCodings refl (c .before .args .x) (omega arith)))
+tested c = refl
+
+returns : tie.Need-returns
+returns c = c .among .ensures ∙ told _ (λ x. among x innerCodings) (tested c) (c .before .before .args .x) (search needs)
+
+pub inner-assigned-spec : {M : Type 1} → statement M
+inner-assigned-spec = tie.close (tie.spec (λ c. search needs) (λ c κs. search needs) returns)
