@@ -101,8 +101,10 @@ proving() {
     local what=$1 crates parent=$BASHPID mark=target/c/began.$BASHPID teller log status=0
     mapfile -t crates < <(rests_on "$2")
     shift 2
-    mkdir -p target/c
-    : >"$mark"
+    { mkdir -p target/c && : >"$mark"; } 2>/dev/null || {
+        printf '%s: target/ cannot be written here\n' "$0" >&2
+        exit 1
+    }
     (
         trap 'rm -f "$mark"' EXIT
         progress "$what" "$mark" "$parent" "${crates[@]}"

@@ -98,7 +98,7 @@ fn format_assigned(x: u8) -> bool
     among(&rows, x)
 }
 
-// System, inner coding and format (Table 5.9) are assigned, and the index is at most 255: else 10.
+// System, inner coding and format (Tables 5.7 to 5.9 of 003) are assigned, and the index is at most 255: else 10.
 fn mode_fair(index: u16, m: Mode) -> bool
     ensures { λ x. ⌜ x ≡ modeFair index m ⌝ }
 {
