@@ -1,5 +1,5 @@
--- Document 01, "The C side and the printed line-up": every clause of the text and of the cutting of an input, whole or in pieces, computed; and request 2026-01,
--- the lines of `labels`. (Whole outputs: Printed.antt, PrintedLabels.antt.)
+-- Document 01, "The C side and the printed line-up": every clause of the text and of the cutting of an input, whole or in pieces, computed; and of
+-- request 2026-01 the lines of `labels`. (Whole outputs: Printed.antt, PrintedLabels.antt.)
 use Prim.Native.Nat.{ℕ, _*_, _%_}
 use mathlib.Core.Path.{_≡_, refl}
 use mathlib.Core.Bool.{cond}

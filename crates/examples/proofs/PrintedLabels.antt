@@ -14,9 +14,9 @@ use Rattle.examples.proofs.Plants.{examplePlant, namesPlain}
 abbrev pub namedExample : List (List ℕ)
 namedExample = examplePlant ++ (namesPlain ∷ [])
 
--- for map 0x0102, without a carrier and a mode, the highest channel first: 4095 is the application 0x0102; 6 has a record and isn't defined; 5 is number 0x1234,
--- whose carrier isn't there; 3 is the application 0x1234; 0 is the application 7. Names, version 9: of the application 0x0102, with every digit in front and
--- behind; of number 0x1234, which labels neither channel 5, since it has no line, nor channel 3; of the application 7
+-- for map 0x0102, without a carrier and a mode, the highest channel first: 4095 is the application 0x0102; 6 has a record and isn't defined; 5 is number
+-- 0x1234, whose carrier isn't there; 3 is the application 0x1234; 0 is the application 7. Names, version 9: of the application 0x0102, with every digit
+-- in front and behind; of number 0x1234, which labels neither channel 5, since it has no line, nor channel 3; of the application 7
 abbrev pub namedPlant : List (List ℕ)
 namedPlant =
     hex "C2 30 0D 00 01 00 01 93 03 E5 00 00 A4 DF F3 22"
@@ -38,8 +38,8 @@ pub record PrintedLabels : Type 0 where
   pub empty : labels (hex "00 00") ≡ text "labels=1\nmap=0\nntt=none\nchannels=0\n"
   -- the paper's plant, with names
   pub named : labels (hex "00 00" ++ flatten namedExample) ≡ text "labels=1\nmap=0\nntt=5\nchannels=1\nchannel=3 label=000141\n"
-  -- a line for each channel that `lineup` lists and for no other, ascending, the first and the last too; nothing stands behind `label=` of channel 3, which has no
-  -- name
+  -- a line for each channel that `lineup` lists and for no other, ascending, the first and the last too; nothing stands behind `label=` of channel 3, which
+  -- has no name
   pub plant :
       labels (hex "01 02" ++ flatten namedPlant)
       ≡ text "labels=1\nmap=258\nntt=9\nchannels=3\nchannel=0 label=9F\nchannel=3 label=\n"

@@ -25,7 +25,8 @@ use Rattle.examples.proofs.Sweeps.{swept, asNumber}
 
 pub record SaidClauses : Type 0 where
   pub refusals :
-      readSaid (Read.Refused 3) ∷ askedSaid (Asked.Refused 4) ∷ answerSaid (Answer.Refused 5) ∷ tunedSaid (Tuned.Refused 6) ∷ labelSaid (Labelled.Refused 7) ∷ []
+      readSaid (Read.Refused 3) ∷ askedSaid (Asked.Refused 4) ∷ answerSaid (Answer.Refused 5) ∷ tunedSaid (Tuned.Refused 6)
+      ∷ labelSaid (Labelled.Refused 7) ∷ []
       ≡ map (λ n. record { refusal = n; word = "refusal"; values = [] }) (3 ∷ 4 ∷ 5 ∷ 6 ∷ 7 ∷ [])
   pub reads :
       map

@@ -22,7 +22,9 @@ module _ {M : Type 1} (𝓤 : URA M) (H : Heap 𝓤) (A : Atoms 𝓤) (mem : Mem
   look_up-determined = determined-by 𝓤 {T = look_up.ended} (look_up.clauses 𝓤 H A mem run) _ _ (λ κs a g r e. first-says 𝓤 (id⊢ 𝓤 _) (id⊢ 𝓤 _))
 
   pub ask_label-determined : Determined 𝓤 {T = ask_label.ended} (ask_label.clauses 𝓤 H A mem run) (λ κs r e. r)
-  ask_label-determined = determined-by 𝓤 {T = ask_label.ended} (ask_label.clauses 𝓤 H A mem run) _ _ (λ κs a g r e. first-says 𝓤 (id⊢ 𝓤 _) (first-says 𝓤 (id⊢ 𝓤 _) (id⊢ 𝓤 _)))
+  ask_label-determined =
+      determined-by 𝓤 {T = ask_label.ended} (ask_label.clauses 𝓤 H A mem run) _ _
+      (λ κs a g r e. first-says 𝓤 (id⊢ 𝓤 _) (first-says 𝓤 (id⊢ 𝓤 _) (id⊢ 𝓤 _)))
 
   pub label-determined : Determined 𝓤 {T = label.ended} (label.clauses 𝓤 H A mem run) (λ κs r e. withLent (now r) (ptr r))
   label-determined =

@@ -8,7 +8,8 @@ use borrow.Author.Tests.{eqb-true, le-leb}
 use Rattle.rules.specs.{Bytes.from, Section.Content, Section.Structure, Section.Reading, Section.wrong, Section.right, Section.readSection}
 use Rattle.rules.specs.{Section.lengthOf, Search.sections, declared.Table.Table, declared.Holding.Holding, declared.State.State, Labelling.ButNames}
 use Rattle.rules.specs.Gathering as Gathering
-use Rattle.rules.specs.Holding.{limitOf, indexOf, isTable, listed, holdingOf, placeOf, storeSize, sectionAt, liveAt, wellFormed, hasLanguage, notOurs, otherMap, readFor}
+use Rattle.rules.specs.Holding.{limitOf, indexOf, isTable, listed, holdingOf, placeOf, storeSize, sectionAt, liveAt, wellFormed}
+use Rattle.rules.specs.Holding.{hasLanguage, notOurs, otherMap, readFor}
 use Rattle.rules.specs.Tuning.{neededTables, tableLive, allLive, liveCount, liveReading, isSection, readsAs, every, placeReads, tableReads, allRead}
 use Rattle.rules.specs.Tuning.{recordsIn, liveSection, liveRecords, carriersIn, modesIn, channelsIn, rangesIn, plant, tune}
 use Rattle.rules.specs.declared.Table.the-variants.{Cds, Mms, Vcm, Dcm, Ntt}

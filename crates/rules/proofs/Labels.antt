@@ -9,7 +9,8 @@ use lib.{ListN.length, Dec.leb, Dec.eqb}
 use borrow.Author.Tests.{le-leb, lt-leb, leb-true, leb-false, eq-eqb, ne-eqb, eqb-true, eqb-false}
 use Rattle.rules.specs.{Layout.Numbered, Tables.Name, Tables.ntt, Search.first}
 use Rattle.rules.specs.Holding.{limitOf, storeSize, holdingOf, wellFormed}
-use Rattle.rules.specs.Tuning.{Plant, tableLive, liveCount, placeReads, tableReads, allLive, allRead, plant, liveRecords, isChannel, isRange, definedBy, defined}
+use Rattle.rules.specs.Tuning.{Plant, tableLive, liveCount, placeReads, tableReads, allLive, allRead, plant, liveRecords}
+use Rattle.rules.specs.Tuning.{isChannel, isRange, definedBy, defined}
 use Rattle.rules.specs.Standing.{Standing, liveStanding}
 use Rattle.rules.specs.Label.{isName, liveNames, labelOf, channelLabel, namesRead, wants, labelled}
 use Rattle.rules.specs.Answered.{First, Nowhere, RangeIs, ChannelIs, Defined, Askable}

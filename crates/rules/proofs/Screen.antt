@@ -175,7 +175,8 @@ line-of tuned (suc n) number above line below e =
     (λ more. line-of tuned n (number + 1) more line below)
   where
     go : ((rest : List (List ℕ)) × (channelLine number (tuned number) ≡ above ++ (line ∷ rest)))
-        ⊎ ((more : List (List ℕ)) × (above ≡ channelLine number (tuned number) ++ more) × (channelLines (λ k. channelLine k (tuned k)) n (number + 1) ≡ more ++ (line ∷ below)))
+        ⊎ ((more : List (List ℕ)) × (above ≡ channelLine number (tuned number) ++ more)
+        × (channelLines (λ k. channelLine k (tuned k)) n (number + 1) ≡ more ++ (line ∷ below)))
         → ((more : List (List ℕ)) → channelLines (λ k. channelLine k (tuned k)) n (number + 1) ≡ more ++ (line ∷ below) → Of tuned n (number + 1) line)
         → Of tuned (suc n) number line
     go (inl (rest, q)) later =

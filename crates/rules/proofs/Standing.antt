@@ -73,7 +73,8 @@ module _ {R : Type 0} (k : Block R) (store : List ℕ) where
 
 module _ {R : Type 0} (l : Layout R) (some-bytes : (bs : List ℕ) → 0 < extent (l .block) bs) (store : List ℕ) (start : ℕ) (b : List ℕ)
     (is : b ≡ withoutCrc (sectionAt store start)) where
-  stands-here : (index at : ℕ) → extent (l .block) (from b at) ≤ length b - at → StandsAt (l .block) store (record { row = numbered l index (from b at); at = start + at })
+  stands-here : (index at : ℕ) → extent (l .block) (from b at) ≤ length b - at
+      → StandsAt (l .block) store (record { row = numbered l index (from b at); at = start + at })
   unfolding numbered
   stands-here index at h =
       let k = l .block in
@@ -139,7 +140,8 @@ module _ (t : Table) (some-bytes : (y : Front) (bs : List ℕ) → 0 < extent (f
         y,
         subst (λ (ys : List (Standing (form t .Row))). Stand (form t .layout y .block) store ys (rowsOf x)) (sym there)
             (subst (λ (rs : List (Numbered (form t .Row))).
-            Stand (form t .layout y .block) store (standing (form t .layout y) (y .count) (y .first) (start + length b) (from b (m + n))) rs) (sym listed) stand),
+            Stand (form t .layout y .block) store (standing (form t .layout y) (y .count) (y .first) (start + length b) (from b (m + n))) rs)
+            (sym listed) stand),
       )
 
   -- of a section of a live table, and of all of them
@@ -195,7 +197,8 @@ module _ (store : List ℕ) (y : Standing Name) (a : StandsAt (ntt .block) store
       let room : 4 + n ≤ length l = omega (arith, fits, length-drop (y .at) store) in
       let whole : length (take (4 + n) l) ≡ 4 + n = length-take-le (4 + n) l room in
       let rest : length (drop 4 (take (4 + n) l)) ≡ n = length-drop 4 (take (4 + n) l) ∙ omega (arith, whole) in
-      sym (take-all n (drop 4 (take (4 + n) l)) (omega (arith, rest))) ∙ part-front (4 + n) l 4 n (omega (arith, whole)) ∙ ap (take n) (drop-drop 4 (y .at) store)
+      sym (take-all n (drop 4 (take (4 + n) l)) (omega (arith, rest))) ∙ part-front (4 + n) l 4 n (omega (arith, whole))
+      ∙ ap (take n) (drop-drop 4 (y .at) store)
 
   is-name : y .row .what .name ≡ take n (drop (y .at + 4) store)
   unfolding ntt nameOf from

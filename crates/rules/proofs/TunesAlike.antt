@@ -84,7 +84,8 @@ module _ (b c : Box) (a : Alike b c) where
         → liveRecords (λ x. records (x .lists)) s (c .store) t ≡ liveRecords (λ x. records (x .lists)) s (b .store) t
     unfolding liveRecords liveSection liveReading
     records-alike records =
-        same-sections _ _ (liveCount s t) 0 (λ n lt. by-same box says (recordsIn (λ x. records (x .lists))) (records-same records) (place-alike n (omega arith)))
+        same-sections _ _ (liveCount s t) 0
+        (λ n lt. by-same box says (recordsIn (λ x. records (x .lists))) (records-same records) (place-alike n (omega arith)))
 
   module _ (live : allLive s ≡ true) where
     on : (t : Table) → listed neededTables t ≡ true → holdingOf s t .live .present ≡ 1

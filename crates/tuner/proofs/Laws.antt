@@ -137,17 +137,20 @@ module _ (s : State) (store : List ℕ) (number n : ℕ) (e : n ≡ checks s sto
   pub refused-early : (n ≡ 0 → ⊥) → n < 14 → Tuned.Refused n ≡ tune s store number
   unfolding checks tune
   refused-early ne h =
-      early Tuned.Refused needs needed not-needed (lookUp (plant s store) number) n (leb (storeSize (limitOf s)) (length store)) (wellFormed s) (leb number 4095) (allLive s)
+      early Tuned.Refused needs needed not-needed (lookUp (plant s store) number) n
+      (leb (storeSize (limitOf s)) (length store)) (wellFormed s) (leb number 4095) (allLive s)
       (allRead s store) e ne h
 
   pub refused-high : 14 ≤ n → 4095 < number → Tuned.Refused 14 ≡ tune s store number
   unfolding checks tune
   refused-high h f =
-      high Tuned.Refused needs needed not-needed (lookUp (plant s store) number) n (leb (storeSize (limitOf s)) (length store)) (wellFormed s) (leb number 4095) (allLive s) (allRead s store) e h
+      high Tuned.Refused needs needed not-needed (lookUp (plant s store) number) n
+      (leb (storeSize (limitOf s)) (length store)) (wellFormed s) (leb number 4095) (allLive s) (allRead s store) e h
       (lt-leb number 4095 f)
 
   pub refused-late : (n ≡ 0 → ⊥) → 14 ≤ n → number ≤ 4095 → Tuned.Refused n ≡ tune s store number
   unfolding checks tune
   refused-late ne h f =
-      late Tuned.Refused needs needed not-needed (lookUp (plant s store) number) n (leb (storeSize (limitOf s)) (length store)) (wellFormed s) (leb number 4095) (allLive s) (allRead s store) e ne h
+      late Tuned.Refused needs needed not-needed (lookUp (plant s store) number) n
+      (leb (storeSize (limitOf s)) (length store)) (wellFormed s) (leb number 4095) (allLive s) (allRead s store) e ne h
       (le-leb number 4095 f)

@@ -19,4 +19,5 @@ unfolding labelBytes labelPlace
 returns-3 c = rw (c .enum-told2 .given .1) (refl, refl)
 
 pub shown-spec : {M : Type 1} → statement M
-shown-spec = tie.close (tie.spec (λ c. search needs) (λ c. search needs) (λ c. search needs) (λ c κs. search needs) (λ c. search needs) returns returns-2 returns-3)
+shown-spec = tie.close (tie.spec (λ c. search needs) (λ c. search needs) (λ c. search needs) (λ c κs. search needs) (λ c. search needs)
+    returns returns-2 returns-3)

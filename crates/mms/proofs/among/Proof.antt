@@ -46,5 +46,5 @@ returns-2 c =
     rw (l .inv .1, e, drop-length rows)
 
 pub among-spec : {M : Type 1} → statement M
-among-spec = tie.close (tie.spec Inv-loop μ-loop (λ c. (omega arith, refl)) (λ c. omega arith) returns (λ c. search needs) (λ c. search needs) (λ c. omega arith)
-    loop-again returns-2)
+among-spec = tie.close (tie.spec Inv-loop μ-loop (λ c. (omega arith, refl)) (λ c. omega arith) returns (λ c. search needs) (λ c. search needs)
+    (λ c. omega arith) loop-again returns-2)

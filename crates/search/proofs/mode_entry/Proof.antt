@@ -94,7 +94,8 @@ returns-2 c =
 pub mode-entry-spec : {M : Type 1} → statement M
 mode-entry-spec = tie.close (tie.spec Inv-loop2 μ-loop2 Inv-loop μ-loop (λ c κs. search needs) (λ c. search needs) (λ c. search needs) loop-holds
     (λ c. search needs) (λ c κs. search needs) (λ c. search needs) (λ c κs. search needs) (λ c κs. search needs) (λ c κs. search needs)
-    (λ c. search needs) loop2-holds add-past-counted (λ c κs. search needs) (λ c. search needs) (λ c. search needs) (λ c κs. search needs) (λ c κs. search needs)
+    (λ c. search needs) loop2-holds add-past-counted
+    (λ c κs. search needs) (λ c. search needs) (λ c. search needs) (λ c κs. search needs) (λ c κs. search needs)
     (λ c. let w = c .before .before .before .before .before .before .before in
     omega (arith, small _ _ _ _ (w .before .loop2 .inv .0) (omega (arith, w .loop2-test .taken))))
     entry-at-requires returns (λ c. search needs)
