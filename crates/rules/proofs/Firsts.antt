@@ -3,25 +3,10 @@ use Prim.Native.Nat.{ℕ}
 use native.Mathlib.Omega.{arith}
 use mathlib.Core.Path.{_≡_, refl, sym, ap, subst, _∙_}
 use mathlib.Core.{Logic._⊎_, Logic.inl, Logic.inr}
-use mathlib.Core.List.{List, [], _∷_, _++_, append-assoc}
+use mathlib.Core.List.{List, [], _∷_, _++_, append-nil, append-assoc}
 use Rattle.rules.specs.Answered.{Nowhere, First}
 
 module _ {R : Type 0} where
-  -- a record of two lists one behind the other stands in the first or in the second
-  pub parted : (a b before : List R) (r : R) (behind : List R) → a ++ b ≡ before ++ (r ∷ behind)
-      → ((rest : List R) × (a ≡ before ++ (r ∷ rest))) ⊎ ((more : List R) × (before ≡ a ++ more) × (b ≡ more ++ (r ∷ behind)))
-  parted [] b before r behind e = inr (before, refl, e)
-  parted (x ∷ a) b [] r behind e = let q : x ≡ r = cc in inl (a, ap (λ (y : R). y ∷ a) q)
-  parted (x ∷ a) b (y ∷ before) r behind e = go (parted a b before r behind cc)
-    where
-      same : x ≡ y
-      same = cc
-
-      go : ((rest : List R) × (a ≡ before ++ (r ∷ rest))) ⊎ ((more : List R) × (before ≡ a ++ more) × (b ≡ more ++ (r ∷ behind)))
-          → ((rest : List R) × ((x ∷ a) ≡ (y ∷ before) ++ (r ∷ rest))) ⊎ ((more : List R) × ((y ∷ before) ≡ (x ∷ a) ++ more) × (b ≡ more ++ (r ∷ behind)))
-      go (inl (rest, q)) = inl (rest, cc)
-      go (inr (more, q, f)) = inr (more, cc, f)
-
   -- of two ways to part a list, one begins with the other's first part
   pub two-ways : (a b c d : List R) → a ++ b ≡ c ++ d
       → ((more : List R) × (c ≡ a ++ more) × (b ≡ more ++ d)) ⊎ ((more : List R) × (a ≡ c ++ more) × (d ≡ more ++ b))
@@ -36,6 +21,17 @@ module _ {R : Type 0} where
           → ((more : List R) × ((y ∷ c) ≡ (x ∷ a) ++ more) × (b ≡ more ++ d)) ⊎ ((more : List R) × ((x ∷ a) ≡ (y ∷ c) ++ more) × (d ≡ more ++ b))
       go (inl (more, p, q)) = inl (more, cc, q)
       go (inr (more, p, q)) = inr (more, cc, q)
+
+  -- so a record of two lists one behind the other stands in the first or in the second
+  pub parted : (a b before : List R) (r : R) (behind : List R) → a ++ b ≡ before ++ (r ∷ behind)
+      → ((rest : List R) × (a ≡ before ++ (r ∷ rest))) ⊎ ((more : List R) × (before ≡ a ++ more) × (b ≡ more ++ (r ∷ behind)))
+  parted a b before r behind e = go (two-ways a b before (r ∷ behind) e)
+    where
+      go : ((more : List R) × (before ≡ a ++ more) × (b ≡ more ++ (r ∷ behind))) ⊎ ((more : List R) × (a ≡ before ++ more) × ((r ∷ behind) ≡ more ++ b))
+          → ((rest : List R) × (a ≡ before ++ (r ∷ rest))) ⊎ ((more : List R) × (before ≡ a ++ more) × (b ≡ more ++ (r ∷ behind)))
+      go (inl in-second) = inr in-second
+      go (inr ([], p, q)) = inr ([], sym (append-nil a ∙ p ∙ append-nil before), sym q)
+      go (inr (x ∷ more, p, q)) = let same : r ≡ x = cc in inl (more, rw same p)
 
   -- an empty list has none
   pub nothing-in : (before : List R) (r : R) (behind : List R) → [] ≡ before ++ (r ∷ behind) → ⊥

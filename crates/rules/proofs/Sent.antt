@@ -65,10 +65,11 @@ module _ {T S C : Type 0} (co : Collector T S C) where
     throughout-end b [] x t so = (so, tt)
     throughout-end b (y ∷ ys) x t so = (t .0, throughout-end (boxAfter co b y) ys x (t .1) so)
 
-    throughout-last : (b : BoxOf S) (x : List ℕ) (xs : List (List ℕ)) → Throughout co So b (x ∷ xs) → So (run co b (x ∷ xs))
+    -- after the first of these, and each behind it
+    pub throughout-at : (b : BoxOf S) (x : List ℕ) (xs ys : List (List ℕ)) → Throughout co So b ((x ∷ xs) ++ ys) → So (run co b (x ∷ xs))
     unfolding run
-    throughout-last b x [] t = t .0
-    throughout-last b x (y ∷ ys) t = throughout-last (boxAfter co b x) y ys (t .1)
+    throughout-at b x [] ys t = t .0
+    throughout-at b x (y ∷ xs) ys t = throughout-at (boxAfter co b x) y xs ys (t .1)
 
   module _ (start : BoxOf S) where
     -- a version of a table that is gathered behind these sections: those that came since its gathering began, and of each number that is held the first
@@ -160,7 +161,8 @@ module _ {T S C : Type 0} (co : Collector T S C) where
           ∙ ap (run co start) (append-assoc (s .before) (s .meanwhile) (s .completing ∷ s .behind) ∙ sym (s .is-run))
           ∙ w .is-run in
           let So : BoxOf S → Type 0 = λ y. holdingOf (y .state) t .live ≡ record { present = 1; version = s .version; last = s .last } in
-          let was : So b = subst So here (throughout-last So from (s .completing) (s .behind) (s .stays)) in
+          let stays = subst (Throughout co So from) (sym (append-nil (s .completing ∷ s .behind))) (s .stays) in
+          let was : So b = subst So here (throughout-at So from (s .completing) (s .behind) [] stays) in
           record {
             version = s .version;
             last = s .last;

@@ -9,17 +9,10 @@ use Rattle.rules.specs.{Steps.isLive, Answered.First, declared.Holding.H
 use Rattle.rules.specs.Gathering.{Collector, BoxOf, boxAfter, run}
 use Rattle.rules.specs.{Offering.GatheredIs, Offering.Wanted, Sent.Throughout, Sent.SentAs}
 use Rattle.rules.proofs.{Truths.differ, Right.one-right, Lawful.Lawful, Offers.reads-kept, Offers.went-live}
-use Rattle.rules.proofs.{Firsts.two-ways, Firsts.first-once, Sent.run-append}
+use Rattle.rules.proofs.{Firsts.two-ways, Firsts.first-once, Sent.run-append, Sent.throughout-at}
 
 module _ {T S C : Type 0} (co : Collector T S C) where
   open Collector co using (holding as holdingOf, read as readFor, table as tableOf, revision as revisionOf)
-
-  -- after the first of these, and each behind it
-  throughout-at : (So : BoxOf S → Type 0) (b : BoxOf S) (x : List ℕ) (xs ys : List (List ℕ)) → Throughout co So b ((x ∷ xs) ++ ys)
-      → So (run co b (x ∷ xs))
-  unfolding run
-  throughout-at So b x [] ys t = t .0
-  throughout-at So b x (y ∷ xs) ys t = throughout-at So (boxAfter co b x) y xs ys (t .1)
 
   module _ (law : Lawful co) where
     reads-run : (b : BoxOf S) (xs : List (List ℕ)) (x : List ℕ) → readFor (run co b xs .state) x ≡ readFor (b .state) x
@@ -70,13 +63,13 @@ module _ {T S C : Type 0} (co : Collector T S C) where
           sym (run-append co start (upTo u) (u .completing ∷ rest)) ∙ ap (run co start) (sym e) in
           let stays : Throughout co So (run co start (upTo u)) ((u .completing ∷ rest) ++ (s .completing ∷ s .behind)) = rw (← f) (u .stays) in
           let before : So (run co start (upTo s)) =
-          subst So there (throughout-at So (run co start (upTo u)) (u .completing) rest (s .completing ∷ s .behind) stays) in
+          subst So there (throughout-at co So (run co start (upTo u)) (u .completing) rest (s .completing ∷ s .behind) stays) in
           let more : Throughout co So (run co start (upTo u)) ((u .completing ∷ (rest ++ (s .completing ∷ []))) ++ s .behind) =
           rw (append-assoc rest (s .completing ∷ []) (s .behind)) stays in
           let one : run co (run co start (upTo u)) (u .completing ∷ (rest ++ (s .completing ∷ []))) ≡ boxAfter co (run co start (upTo s)) (s .completing) =
           run-append co (run co start (upTo u)) (u .completing ∷ rest) (s .completing ∷ []) ∙ ap (λ (b : BoxOf S). boxAfter co b (s .completing)) there in
           let behind : So (boxAfter co (run co start (upTo s)) (s .completing)) =
-          subst So one (throughout-at So (run co start (upTo u)) (u .completing) (rest ++ (s .completing ∷ [])) (s .behind) more) in
+          subst So one (throughout-at co So (run co start (upTo u)) (u .completing) (rest ++ (s .completing ∷ [])) (s .behind) more) in
           let same : u .version ≡ s .version = ap (λ (l : LiveVersion). l .version) (sym behind ∙ lives s) in
           differ (sym (is-live (holdingOf (run co start (upTo s) .state) t) (s .version) (u .last) (rw (← same) before)) ∙ not-live s)
 
@@ -86,7 +79,7 @@ module _ {T S C : Type 0} (co : Collector T S C) where
       begins-once s u v z more e f =
           let So : BoxOf S → Type 0 = λ b. GatheredIs (holdingOf (b .state) t) (s .version) in
           let on : So (run co (run co start (s .before)) (z ∷ more)) =
-          throughout-at So (run co start (s .before)) z more (u .meanwhile) (subst (Throughout co So (run co start (s .before))) f (s .goes-on)) in
+          throughout-at co So (run co start (s .before)) z more (u .meanwhile) (subst (Throughout co So (run co start (s .before))) f (s .goes-on)) in
           u .not-yet (rw (← v, e, run-append co start (s .before) (z ∷ more)) on)
 
       same-meanwhile : {x y : List ℕ} (s : SentAs co start sections t n x) (u : SentAs co start sections t n y) → s .version ≡ u .version
