@@ -137,6 +137,10 @@ frenchHigh = hex "C3 30 0F 00 66 72 61 06 00 93 03 E6 01 01 E6 44 1E C9"
 abbrev pub namesNext : List ℕ
 namesNext = hex "C3 30 0F 00 65 6E 67 06 00 93 03 E7 00 00 3A 77 D3 99"
 
+-- names in English, 0 of 0 of version 5
+abbrev pub englishFive : List ℕ
+englishFive = hex "C3 30 0F 00 65 6E 67 06 00 93 03 E5 00 00 39 C6 8A 97"
+
 abbrev pub emptyStore : List ℕ
 emptyStore = replicate 40960 0
 
@@ -257,6 +261,12 @@ pub record HoldingClauses : Type 0 where
   pub language-given :
       map (λ l. offeredAs (fresh 0 (hex "66 72 61")) (right (spoken Ntt 0 l (revised 7 0 1))) .answer) (eng ∷ speech 0x66 0x72 0x61 ∷ [])
       ≡ OtherMap ∷ Stored 1 ∷ []
+  -- a box may be started with any three bytes (N20), and takes these alone: FF FF FF is no wild card there either (Q9), and 00 00 00 is a language like others
+  pub language-any :
+      map (λ ours. map (λ l. offered (fresh 0 ours) emptyStore l .answer) (englishFive
+      ∷ hex "C3 30 0F 00 FF FF FF 06 00 93 03 E5 00 00 50 4A 4A A0" ∷ hex "C3 30 0F 00 00 00 00 06 00 93 03 E5 00 00 CD F1 88 D1" ∷ []))
+      (hex "FF FF FF" ∷ hex "00 00 00" ∷ [])
+      ≡ (OtherMap ∷ Live 5 ∷ OtherMap ∷ []) ∷ (OtherMap ∷ OtherMap ∷ Live 5 ∷ []) ∷ []
   -- and in words
   pub other-spoken :
       OtherMapped mixed (spoken Ntt 0x0102 (speech 0x66 0x6E 0x67) (revised 7 0 1))
@@ -405,6 +415,7 @@ holding-clauses =
       languages = refl;
       language-bytes = refl;
       language-given = refl;
+      language-any = refl;
       other-spoken = (inr (refl, λ l. unlike refl (l .0)), inr (refl, λ l. unlike refl (l .1)), inr (refl, λ l. unlike refl (l .2)));
       same-spoken = (refl, refl, refl);
       our-map = refl;

@@ -7,7 +7,7 @@ use mathlib.Core.List.{List, [], _∷_, _++_, map}
 use mathlib.Core.Option.{none, some}
 use lib.ListN.{length, replicate}
 use Rattle.rules.specs.Bytes.{refused, got}
-use Rattle.rules.specs.Tables.{cds}
+use Rattle.rules.specs.Tables.{cds, channelOf}
 use Rattle.rules.specs.Form.{form}
 use Rattle.rules.specs.Section.{withoutCrc}
 use Rattle.rules.specs.Holding.{put, noneLive, noneGathered, with}
@@ -65,15 +65,30 @@ pub record LabelClauses : Type 0 where
       × (answered (λ n. asNumber (isName 1 7 (name 1 n []))) 1 16 ≡ 7 ∷ [])
       × (map (λ n. asNumber (isName 0 7 (name n 7 []))) (0 ∷ 1 ∷ []) ≡ 1 ∷ 0 ∷ [])
       × (map (λ n. asNumber (isName 1 7 (name n 7 []))) (0 ∷ 1 ∷ []) ≡ 0 ∷ 1 ∷ [])
+  -- all sixteen bits of the number
+  pub is-number :
+      map (λ n. asNumber (isName 0 0x1234 (name 0 n []))) (0x1234 ∷ 0x0034 ∷ 0x1334 ∷ 0x0234 ∷ 0x9234 ∷ 0x1235 ∷ 0x1134 ∷ [])
+      ≡ 1 ∷ 0 ∷ 0 ∷ 0 ∷ 0 ∷ 0 ∷ 0 ∷ []
   -- the name stands behind the four bytes that every record has
   pub label-of :
-      map labelOf (none ∷ some (record { row = name 0 7 (hex "40"); at = 100 }) ∷ some (record { row = name 1 9 (hex "00 02 41 42"); at = 0 }) ∷ [])
-      ≡ Fallback ∷ Named 104 1 ∷ Named 4 4 ∷ []
+      map labelOf (none ∷ some (record { row = name 0 7 (hex "40"); at = 100 }) ∷ some (record { row = name 1 9 (hex "00 02 41 42"); at = 0 })
+      ∷ some (record { row = name 0 7 (replicate 255 0x40); at = 40000 }) ∷ [])
+      ≡ Fallback ∷ Named 104 1 ∷ Named 4 4 ∷ Named 40004 255 ∷ []
   -- the label is a part of the store, from its start to its size, or the fallback, whatever bytes it has, also none; nothing where the question is refused
   pub parts :
       map (labelBytes (hex "01 02 03 04") (hex "AA")) (Named 1 2 ∷ Named 0 4 ∷ Named 3 0 ∷ Refused 18 ∷ [])
       ≡ hex "02 03" ∷ hex "01 02 03 04" ∷ [] ∷ [] ∷ []
   pub fallbacks : map (λ lent. labelBytes (hex "01 02 03") lent Fallback) (hex "07 FF" ∷ [] ∷ []) ≡ hex "07 FF" ∷ [] ∷ []
+  -- of a channel's record the flag and the number alone: digital, hidden and of path 1, analogue, and applications, one of them hidden, of path 1 and analogue
+  pub any-channel :
+      map (λ r. channelLabel (namesHeld 1 6 1 0) (namesAlone (padded 1024 lowNames ++ highNames)) (some (record { index = 0; what = channelOf r })))
+      (hex "00 03 00 12 34 02 00 03 01"
+      ∷ hex "00 03 21 12 34 02 00 03 01"
+      ∷ hex "00 03 10 12 34 02 84 00 00"
+      ∷ hex "00 03 80 12 34 00 00 00 00"
+      ∷ hex "00 03 B1 12 34 02 84 00 00"
+      ∷ [])
+      ≡ Named 32789 6 ∷ Named 32789 6 ∷ Named 32789 6 ∷ Named 32781 3 ∷ Named 32781 3 ∷ []
   -- refusal 18: no channel record
   pub no-channel : channelLabel live5 [] none ≡ Refused 18
   -- ---- the live names: none where the table isn't live; those that are gathered beside them don't matter (readings, Q13); the live half is the one set
@@ -92,11 +107,13 @@ pub record LabelClauses : Type 0 where
       ≡ 0 ∷ 0 ∷ 0 ∷ 1 ∷ []
   -- of another version or last than the live one; where none are live none are read
   pub sixteen-held : map (λ s. reading s smallNames) (namesHeld 1 6 0 0 ∷ namesHeld 1 5 1 0 ∷ namesHeld 0 0 0 1 ∷ []) ≡ 0 ∷ 0 ∷ 1 ∷ []
+  -- live names read while others are gathered
+  pub sixteen-gathering : reading (with live5 Ntt (holding (live 1 5 0) (gathered 1 6 1 0x01) 0)) smallNames ≡ 1
   -- every live place of the names is read, the first and the last
   pub sixteen-places :
       map (reading (namesHeld 1 6 1 0)) ((padded 1024 highNames ++ highNames) ∷ (padded 1024 lowNames ++ lowNames) ∷ []) ≡ 0 ∷ 0 ∷ []
   -- ---- where the records of a section stand that ends at a place, here at the end of its own bytes without the CRC: behind the header and the head, each
-  -- behind the descriptors of the one before it. Nothing stands in a section that doesn't read
+  -- behind the descriptors of the one before it. Nothing stands behind a header that doesn't read
   pub stand-names : map (λ x. x .at) (standingAlone Ntt plantNtt) ≡ 9 ∷ 17 ∷ 25 ∷ 41 ∷ 50 ∷ []
   pub stand-carriers : map (λ x. x .at) (standingAlone Cds plantCds) ++ map (λ x. x .row .index) (standingAlone Cds plantCds) ≡ 7 ∷ 13 ∷ 3 ∷ 5 ∷ []
   pub stand-channels : map (λ x. x .at) (standingAlone Vcm plantVcm) ≡ 14 ∷ 24 ∷ 36 ∷ []
@@ -111,6 +128,8 @@ pub record LabelClauses : Type 0 where
       ∷ record { row = name 1 0x1235 (hex "00 01 43"); at = 33809 }
       ∷ record { row = name 0 0 (hex "00 00"); at = 33817 }
       ∷ []
+  -- the fourth of four sections too
+  pub stand-fourth : map (λ x. x .at) (liveStanding (namesHeld 1 5 3 0) (namesAlone (padded 3072 [] ++ smallNames)) Ntt) ≡ 35849 ∷ []
   -- so many records and no more, and those in front of one that doesn't read
   pub stand-so-many :
       map (λ n. map (λ x. x .at) (standing cds n 1 100 (hex "01 00 00 15 18 00 01 00 00 15 18 00 01"))) (0 ∷ 1 ∷ 2 ∷ 3 ∷ [])
@@ -127,21 +146,25 @@ unfolding computed swept
 label-clauses =
     record {
       is-name = (refl, refl, refl, refl);
+      is-number = refl;
       label-of = refl;
       parts = refl;
       fallbacks = refl;
+      any-channel = refl;
       no-channel = refl;
       none-live = refl;
       gathered-too = refl;
       other-half = refl;
       sixteen-names = refl;
       sixteen-held = refl;
+      sixteen-gathering = refl;
       sixteen-places = refl;
       stand-names = refl;
       stand-carriers = refl;
       stand-channels = refl;
       stand-not = refl;
       stand-live = refl;
+      stand-fourth = refl;
       stand-so-many = refl;
       of-got = refl;
       grown-names = (refl, refl, refl);

@@ -10,11 +10,14 @@ use Rattle.rules.specs.Label.{labelled, labelBytes}
 use Rattle.rules.specs.declared.Table.the-variants.{Cds, Mms, Vcm, Dcm, Ntt}
 use Rattle.rules.specs.declared.Tuned.the-variants as Tuned
 use Rattle.rules.specs.declared.Labelled.the-variants.{Refused, Named, Fallback}
+use Rattle.rules.specs.Lineup.{text}
+use Rattle.rules.specs.LabelLines.{labelLineOf}
+use Rattle.examples.proofs.Plants.{plantCds, plantMms, plantVcm, plantDcm, plantNtt}
 use Rattle.rules.proofs.Hex.{hex}
 use Rattle.rules.proofs.Computed.{computed}
 use Rattle.examples.proofs.HoldingClauses.{live, gathered, holding, emptyStore}
 use Rattle.examples.proofs.TuningClauses.{live5}
-use Rattle.examples.proofs.LiveBoxes.{padded, storeOf}
+use Rattle.examples.proofs.LiveBoxes.{padded, storeOf, plantStore}
 use Rattle.examples.proofs.LabelClauses.{namesHeld, lowNames, highNames, smallNames}
 
 -- ---- channels that don't tune, for map 0x0102: 2 to 5 are number 0x1234, without a carrier reference, without a carrier, out of reach, without a mode; 6 is
@@ -36,6 +39,9 @@ smallStore names =
     (hex "C4 30 1D 00 00 01 02 00 00 00 00 00 00 01 00 03 80 12 34 00 00 00 00 93 03 E5 00 00 7A 4D 33 2D")
     (hex "C4 30 11 00 01 01 02 00 03 01 82 93 03 E5 00 00 F1 A4 DC 94") names
 
+abbrev pub plantNamed : List ℕ
+plantNamed = storeOf plantCds plantMms plantVcm plantDcm plantNtt
+
 pub record LabelledBoxes : Type 0 where
   -- ---- named: where the name stands in the store, and how many bytes it has. The flag and the number are compared, and the first record with both is taken,
   -- in the lowest section (readings, Q14); a record of a later section is found too, and number 0 is a number (Q12). Refusals 19 to 21 never come (Q13). The
@@ -54,6 +60,14 @@ pub record LabelledBoxes : Type 0 where
       ∷ []
   pub not-tuned :
       map (tune (namesHeld 1 6 1 0) namedStore) (2 ∷ 3 ∷ 4 ∷ 5 ∷ []) ≡ Tuned.Refused 19 ∷ Tuned.Refused 19 ∷ Tuned.Refused 20 ∷ Tuned.Refused 21 ∷ []
+  -- the plant with another value in every field: a hidden digital channel and an application, both of path 1, and an analogue one, which has no name; and
+  -- what `labels` prints of each, also where the names are damaged, so that the label is refused as 16 and the channel has its line
+  pub plant : map (labelled live5 plantNamed) (0x123 ∷ 0x124 ∷ 0x125 ∷ []) ≡ Named 32797 6 ∷ Named 32813 4 ∷ Fallback ∷ []
+  pub plant-lines :
+      map (labelLineOf (record { state = live5; store = plantNamed })) (0x122 ∷ 0x123 ∷ 0x124 ∷ 0x125 ∷ [])
+      ≡ [] ∷ (text "channel=291 label=803F024E2D9F\n" ∷ []) ∷ (text "channel=292 label=00024142\n" ∷ []) ∷ (text "channel=293 label=\n" ∷ []) ∷ []
+  pub damaged-line : labelled live5 plantStore 0x124 ≡ Refused 16
+  pub damaged-lines : labelLineOf (record { state = live5; store = plantStore }) 0x124 ≡ text "channel=292 label=\n" ∷ []
   -- all of the name, its mode and length bytes too (Q10); the fallback as it is lent
   pub bytes :
       map (labelBytes namedStore (hex "AA BB")) (Named 32789 6 ∷ Named 32781 3 ∷ Named 33821 2 ∷ Fallback ∷ [])
@@ -87,6 +101,10 @@ labelled-boxes =
     record {
       named = refl;
       not-tuned = refl;
+      plant = refl;
+      plant-lines = refl;
+      damaged-line = refl;
+      damaged-lines = refl;
       bytes = refl;
       not-live = refl;
       not-there = refl;

@@ -38,6 +38,9 @@ pub record NameTexts : Type 0 where
   -- exactly the reserved ones are refused; with an odd length that of 16 bits too, and it by its length alone
   pub even : failing (λ m. goodMode m 2) ≡ reserved
   pub odd : failing (λ m. goodMode m 1) ≡ reserved ++ (0x3F ∷ [])
+  -- and so with the longest lengths
+  pub even-most : failing (λ m. goodMode m 254) ≡ reserved
+  pub odd-most : failing (λ m. goodMode m 255) ≡ reserved ++ (0x3F ∷ [])
   pub wide-lengths : sweep 256 (λ n. asNumber (goodMode 0x3F n)) ≡ holding 1 1 128
   -- ---- how long a block is: the length is omitted behind an effector of a single byte and behind no other mode; it counts the segment
   pub sizes : sweep 256 (λ m. blockSize (m ∷ 5 ∷ [])) ≡ replicate 0x40 7 ++ replicate 0x60 1 ++ replicate 0x60 7
@@ -55,6 +58,8 @@ pub record NameTexts : Type 0 where
   pub cuts : answered (λ n. asNumber (goodText (take n fiveBlocks))) 1 (length fiveBlocks + 1) ≡ 4 ∷ 5 ∷ 9 ∷ 11 ∷ 12 ∷ []
   pub segment : answered (λ n. asNumber (goodText (0 ∷ n ∷ hex "07 07 07 07"))) 1 256 ≡ 4 ∷ []
   pub most : goodText (0 ∷ 253 ∷ replicate 253 0x41) ≡ true
+  -- as many blocks as bytes: a name of 255 effectors of a single byte; and one whose last block is cut
+  pub most-blocks : goodText (replicate 255 0x40) ∷ goodText (replicate 254 0x40 ++ (0 ∷ [])) ∷ [] ≡ true ∷ false ∷ []
   -- each block is judged, by its own mode and length (behind an effector of a single byte the bytes here are blocks of their own)
   pub second-mode : failing (λ m. goodText (hex "00 01 41" ++ (m ∷ hex "02 00 9F"))) ≡ reserved
   pub second-odd : failing (λ m. goodText (hex "00 01 41" ++ (m ∷ hex "01 00"))) ≡ reserved ++ (0x3F ∷ [])
@@ -71,6 +76,8 @@ name-texts =
       long-modes = refl;
       even = refl;
       odd = refl;
+      even-most = refl;
+      odd-most = refl;
       wide-lengths = refl;
       sizes = refl;
       lengths = refl;
@@ -82,6 +89,7 @@ name-texts =
       cuts = refl;
       segment = refl;
       most = refl;
+      most-blocks = refl;
       second-mode = refl;
       second-odd = refl;
       characters = refl;

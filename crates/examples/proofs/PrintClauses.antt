@@ -3,7 +3,7 @@
 use Prim.Native.Nat.{ℕ, _*_, _%_}
 use mathlib.Core.Path.{_≡_, refl}
 use mathlib.Core.Bool.{cond}
-use mathlib.Core.List.{List, [], _∷_, _++_, map}
+use mathlib.Core.List.{List, [], _∷_, _++_, map, flatten}
 use lib.ListN.{replicate}
 use lib.Dec.{eqb}
 use Rattle.rules.specs.Holding.{noneLive, noneGathered, fresh}
@@ -110,6 +110,8 @@ pub record PrintClauses : Type 0 where
   pub label-lines :
       labelLine 3 (hex "00 01 4C") ∷ labelLine 4095 (hex "9F") ∷ labelLine 0 [] ∷ []
       ≡ text "channel=3 label=00014C\n" ∷ text "channel=4095 label=9F\n" ∷ text "channel=0 label=\n" ∷ []
+  -- the longest name, whole
+  pub label-longest : labelLine 7 (replicate 255 0xAB) ≡ text "channel=7 label=" ++ flatten (replicate 255 (text "AB")) ++ text "\n"
   -- labels=1, map, ntt, channels: the live version of the names, and of no other table
   pub label-headed : labelHeading someLive 33 ≡ text "labels=1\nmap=258\nntt=4\nchannels=33\n"
   pub label-headed-none : labelHeading (fresh 7 english) 0 ≡ text "labels=1\nmap=7\nntt=none\nchannels=0\n"
@@ -158,6 +160,7 @@ print-clauses =
       hex-digits = refl;
       hexadecimals = refl;
       label-lines = refl;
+      label-longest = refl;
       label-headed = refl;
       label-headed-none = refl;
       whole = refl;
