@@ -97,7 +97,13 @@ module _ (t : Table) (b : List ℕ) (fair : form t .limits (headerSays t b) ≡ 
 
   pub head-so : (h : form t .Head) (rest : List ℕ) → taken (form t .head) (λ h. true) (from b (headerSize t)) ≡ got h rest
       → let y = form t .joined (headerSays t b) h in
-      Records (record { at = headerSize t + extent (form t .head) (from b (headerSize t)); map = y .map; first = y .first; count = y .count; included = y .included })
+      Records (record {
+        at = headerSize t + extent (form t .head) (from b (headerSize t));
+        map = y .map;
+        first = y .first;
+        count = y .count;
+        included = y .included;
+      })
       ≡ outlineOf t b
   unfolding outlineOf outlinedAs fronted inFront unless giving
   head-so h rest e =
