@@ -16,7 +16,6 @@ use Rattle.rules.specs.Label.{isName, liveNames, labelOf, channelLabel, namesRe
 use Rattle.rules.specs.declared.Table.{Table}
 use Rattle.rules.specs.declared.Table.the-variants.{Cds, Vcm, Ntt}
 use Rattle.rules.specs.declared.State.{State}
-use Rattle.rules.specs.declared.Tuned.the-variants as Tuned
 use Rattle.rules.specs.declared.Labelled.the-variants.{Refused, Named, Fallback}
 use Rattle.rules.proofs.Hex.{hex}
 use Rattle.rules.proofs.Computed.{computed}

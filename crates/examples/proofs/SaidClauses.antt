@@ -9,7 +9,7 @@ use Rattle.rules.specs.Holding.{fresh}
 use Rattle.rules.specs.Lineup.{english}
 use Rattle.rules.specs.Offering.{goesLive}
 use Rattle.rules.specs.Answered.{khzOf}
-use Rattle.rules.specs.Labelling.{LabelTold, refused, name, lent, toldLabel}
+use Rattle.rules.specs.Labelling.{refused, name, lent, toldLabel}
 use Rattle.rules.specs.Said.{readSaid, askedSaid, answerSaid, tunedSaid, labelSaid, sectionSaid, askSaid, offerSaid, tuneSaid, askLabelSaid}
 use Rattle.rules.specs.Said.{OfSection, OfOffer, OfTuning, OfLabel}
 use Rattle.rules.specs.declared.Table.the-variants.{Cds, Mms, Vcm, Dcm, Ntt}

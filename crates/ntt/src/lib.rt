@@ -1,7 +1,7 @@
 // The network text table, NTT: the text rule of 003, section 7.1, its name record, and the way over its records. b is a section
 // without its CRC.
 ghost use mathlib.Core.Path.{_≡_};
-ghost use Prim.Native.Nat.{ℕ, _+_, _*_, _≤_, _<_};
+ghost use Prim.Native.Nat.{ℕ, _+_, _≤_, _<_};
 ghost use Rattle.rules.specs.Bytes.{from};
 ghost use Rattle.rules.specs.Layout.{extent, entry, records};
 ghost use Rattle.rules.specs.Text.{isPage, isSingle, blockSize, goodMode, goodText};

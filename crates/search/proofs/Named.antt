@@ -6,7 +6,6 @@ use mathlib.Core.Bool.{Bool, true, false, cond}
 use mathlib.Core.List.{List, [], _∷_, _++_}
 use mathlib.Core.Option.{Option, none, some}
 use lib.ListN.{length, take}
-use Rattle.rules.specs.Gathering as Gathering
 use Rattle.rules.specs.{Bytes.got, Bytes.from, Section.withoutCrc, Holding.sectionAt, Holding.liveAt, Search.first, Search.sections}
 use Rattle.rules.specs.{Tuning.liveCount, Tuning.liveSection, Tuning.liveRecords, declared.Table.Table, declared.State.State}
 use Rattle.rules.specs.Layout.{Numbered, numbered, extent, after, records}

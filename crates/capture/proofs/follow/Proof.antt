@@ -1,6 +1,5 @@
 -- Each read that gives bytes is a piece, fed behind what is kept; one that gives none is the end. The measure is the number of
 -- reads left.
-use Prim.Native.Nat.{_≤_}
 use native.Mathlib.Omega.{arith}
 use mathlib.Core.{Path._≡_, Path.refl, Path._∙_}
 use lib.ListN.{length}

@@ -1,5 +1,5 @@
 -- Each test is a clause of the rule, or two.
-use Prim.Native.Nat.{_/_, _%_, _≤_}
+use Prim.Native.Nat.{_/_, _%_}
 use native.Mathlib.Omega.{arith}
 use mathlib.Core.Path.{sym, _∙_}
 use denote.Ref.{now}

@@ -1,5 +1,5 @@
 -- Each test is a clause of the rule.
-use borrow.Author.{Tests.le-leb, Tests.lt-leb, Needs.needs}
+use borrow.Author.Needs.{needs}
 use Rattle.rules.specs.Tables.{modeFair, assigned}
 use Rattle.mms.proofs.mode_fair.Statement.{statement}
 use Rattle.mms.proofs.mode_fair.Tie as tie

@@ -1,7 +1,7 @@
 -- At both loops each number's entry, or else the one from here on, is the entry of the first match of all.
 use Prim.Native.Nat.{ℕ, _+_, _-_, _*_, _≤_}
 use native.Mathlib.{Omega.arith, Nat.sub-zero}
-use mathlib.Core.Path.{_≡_, refl, ap, _∙_}
+use mathlib.Core.Path.{_≡_, refl, _∙_}
 use mathlib.Core.Logic.{⊎-elim}
 use lib.ListN.{length}
 use denote.Ref.{now}
