@@ -49,6 +49,8 @@ Stand k store (y ∷ ys) (r ∷ rs) = StandsAt k store y × (y.row ≡ r) × Sta
 module _ {R : Type 0} (k : Block R) (store : List ℕ) where
   stand-append : (ys zs : List (Standing R)) (rs qs : List (Numbered R)) → Stand k store ys rs → Stand k store zs qs → Stand k store (ys ++ zs) (rs ++ qs)
   stand-append [] zs [] qs a b = b
+  stand-append [] zs (r ∷ rs) qs a b = elim a [ ]
+  stand-append (y ∷ ys) zs [] qs a b = elim a [ ]
   stand-append (y ∷ ys) zs (r ∷ rs) qs a b = (a.0, a.1, stand-append ys zs rs qs a.2 b)
 
   -- the first that passes a test is the first record that passes it
@@ -59,6 +61,8 @@ module _ {R : Type 0} (k : Block R) (store : List ℕ) where
   pub first_of : (test : Numbered R → Bool) (ys : List (Standing R)) (rs : List (Numbered R)) → Stand k store ys rs → FirstOf test ys rs
   unfolding first
   first_of test [] [] a = nowhere refl refl
+  first_of test [] (r ∷ rs) a = elim a [ ]
+  first_of test (y ∷ ys) [] a = elim a [ ]
   first_of test (y ∷ ys) (r ∷ rs) a = go (test y.row) refl (first_of test ys rs a.2)
     where
       same : {b : Bool} → test y.row ≡ b → test r ≡ b
