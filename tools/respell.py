@@ -3,7 +3,7 @@
 
 usage: python3 tools/respell.py      at the top of the repository, once, behind the kit's own port.py
 
-A name in camel case becomes snake case, wherever it stands as a word, also in a longer name: isPage-ok is is_page-ok. In the name of a
+A name in camel case becomes snake case, wherever it stands as a word, also in a longer name: isPage-ok is is_page-ok. Strings stay. In the name of a
 field or a constructor a dash becomes an underscore; between two names of a law it stays. Types, facts and modules keep their capitals, and what
 src/ names keeps its spelling. It goes over crates/ (code, rules, proofs, must-fail edits), README.md and docs/. Names that would fall together
 with others are in APART.
@@ -31,8 +31,8 @@ APART_IN = {
     "crates/examples/proofs/SectionFields.antt": {"no-language": "no_language_computed"},
 }
 CAMEL = re.compile(r"(?<![\w'])[a-z][a-z0-9]*(?:[A-Z][a-z0-9]*)+(?![\w'])")
-# words of the language and of texts that have a capital
-KEPT = {"aZ"}
+# on one line; a quote in a comment opens none
+STRING = re.compile(r'((?://|-- )[^\n]*|"(?:[^"\\\n]|\\.)*")')
 BLOCK = re.compile(r"^(\s*)(?:pub )?(?:record|data) ")
 MEMBER = re.compile(r"^\s+(?:pub )?([^\s:]+) :")
 NAME = r"[\w'◌-]"
@@ -89,9 +89,13 @@ def apart(path, text):
 
 
 def respelled(text, all_names, to):
-    if all_names:
-        text = all_names.sub(lambda m: to[m[0]], text)
-    return CAMEL.sub(lambda m: m[0] if m[0] in KEPT else snake(m[0]), text)
+    """All but what stands in a string, which is kept as it is."""
+    parts = STRING.split(text)
+    for at, part in enumerate(parts):
+        if not part.startswith('"'):
+            part = all_names.sub(lambda m: to[m[0]], part) if all_names else part
+            parts[at] = CAMEL.sub(lambda m: snake(m[0]), part)
+    return "".join(parts)
 
 
 main()

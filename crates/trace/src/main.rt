@@ -22,7 +22,7 @@ fn write_number(text: &[u8], n: u8) {
 fn write_answer(a: Answer) {
     match a {
         Answer::Refused(n) => write_number(b"answer=refused number=", n),
-        Answer::OtherMap => write(b"answer=other_map\n"),
+        Answer::OtherMap => write(b"answer=other-map\n"),
         Answer::Repeat => write(b"answer=repeat\n"),
         Answer::Stored(missing) => write_number(b"answer=stored missing=", missing),
         Answer::Live(version) => write_number(b"answer=live version=", version),
