@@ -2,7 +2,7 @@
 // They hold what document 01 names, and no function stands here: the meaning is specs/.
 
 // The tables, in the order of their places in the store.
-#[derive(Drop)]
+#[derive(Clone, Copy)]
 pub enum Table {
     Cds,
     Mms,
@@ -14,14 +14,14 @@ pub enum Table {
 // ---- what a record says, field by field as it is sent
 
 // So many steps of 10 k_hz (unit 0) or of 125 k_hz (unit 1).
-#[derive(Drop)]
+#[derive(Clone, Copy)]
 pub struct Measure {
     pub unit: u8,
     pub number: u16,
 }
 
 // A CDS record: so many carriers, the first one and the spacing from one to the next.
-#[derive(Drop)]
+#[derive(Clone, Copy)]
 pub struct Carriers {
     pub count: u8,
     pub spacing: Measure,
@@ -29,7 +29,7 @@ pub struct Carriers {
 }
 
 // An MMS record.
-#[derive(Drop)]
+#[derive(Clone, Copy)]
 pub struct Mode {
     pub system: u8,
     pub inner: u8,
@@ -39,14 +39,14 @@ pub struct Mode {
 }
 
 // What a channel record says behind its carrier reference: transport 0 is digital, transport 1 analogue.
-#[derive(Drop)]
+#[derive(Clone, Copy)]
 pub enum Signal {
     Digital { program: u16, mode: u8 },
     Analogue { scrambled: u8, standard: u8 },
 }
 
 // A channel record of the VCM. `kind` is its type, 0 or 1 (hidden); `source` is the application number where application is 1.
-#[derive(Drop)]
+#[derive(Clone, Copy)]
 pub struct Channel {
     pub number: u16,
     pub application: u8,
@@ -58,14 +58,14 @@ pub struct Channel {
 }
 
 // A range byte of the DCM.
-#[derive(Drop)]
+#[derive(Clone, Copy)]
 pub struct Range {
     pub defined: u8,
     pub count: u8,
 }
 
 // The head of a VCM: what stands between the map number and the records.
-#[derive(Drop)]
+#[derive(Clone, Copy)]
 pub struct VcmHead {
     pub included: u8,
     pub splice: u8,
@@ -74,14 +74,14 @@ pub struct VcmHead {
 }
 
 // The head of a DCM: `count` is the data length, so many range bytes.
-#[derive(Drop)]
+#[derive(Clone, Copy)]
 pub struct DcmHead {
     pub first: u16,
     pub count: u8,
 }
 
 // The three language bytes of a names section. (An array would do, if an enum could hold one: a section's head stands in one.)
-#[derive(Drop)]
+#[derive(Clone, Copy)]
 pub struct Language {
     pub first: u8,
     pub second: u8,
@@ -89,7 +89,7 @@ pub struct Language {
 }
 
 // The first three body bytes of the revision descriptor without their reserved bits.
-#[derive(Drop)]
+#[derive(Clone, Copy)]
 pub struct Revision {
     pub version: u8,
     pub number: u8,
@@ -98,7 +98,7 @@ pub struct Revision {
 
 // What a section that reads right is, for one who holds its bytes: its table, map number and language (0 where the table has none),
 // its revision, and the place where its closing list begins.
-#[derive(Drop)]
+#[derive(Clone, Copy)]
 pub struct SectionHead {
     pub table: Table,
     pub map: u16,
@@ -108,14 +108,14 @@ pub struct SectionHead {
 }
 
 // What the reader answers to a section.
-#[derive(Drop)]
+#[derive(Clone, Copy)]
 pub enum Read {
     Refused(u8),
     Right(SectionHead),
 }
 
 // What the question for a descriptor of the closing list answers: the body begins at `start` and has `size` bytes.
-#[derive(Drop)]
+#[derive(Clone, Copy)]
 pub enum Asked {
     Refused(u8),
     Absent,
@@ -125,7 +125,7 @@ pub enum Asked {
 // ---- what the state holds
 
 // A table's live version, or none: `present` is 1 or 0.
-#[derive(Drop)]
+#[derive(Clone, Copy)]
 pub struct LiveVersion {
     pub present: u8,
     pub version: u8,
@@ -133,7 +133,7 @@ pub struct LiveVersion {
 }
 
 // The version being gathered, or none. The ones of `held` are the numbers held: bit n is section n.
-#[derive(Drop)]
+#[derive(Clone, Copy)]
 pub struct GatheredVersion {
     pub present: u8,
     pub version: u8,
@@ -142,7 +142,7 @@ pub struct GatheredVersion {
 }
 
 // What is held of one table. `half` is the half set: the live one, and gathering uses the other.
-#[derive(Drop)]
+#[derive(Clone, Copy)]
 pub struct Holding {
     pub live: LiveVersion,
     pub gathered: GatheredVersion,
@@ -150,14 +150,14 @@ pub struct Holding {
 }
 
 // What is given at the start and never changes: the map number, and the language of names.
-#[derive(Drop)]
+#[derive(Clone, Copy)]
 pub struct Settings {
     pub map: u16,
     pub language: [u8; 3],
 }
 
 // What is held of each table.
-#[derive(Drop)]
+#[derive(Clone, Copy)]
 pub struct Tables {
     pub cds: Holding,
     pub mms: Holding,
@@ -167,7 +167,7 @@ pub struct Tables {
 }
 
 // The tables stand first, so that each holding begins at a multiple of its size: a state is copied by value, and quickly so.
-#[derive(Drop)]
+#[derive(Clone, Copy)]
 pub struct State {
     pub tables: Tables,
     pub settings: Settings,
@@ -176,7 +176,7 @@ pub struct State {
 // ---- what the box answers
 
 // To an offered section. `Stored` says how many sections are still missing, `Live` the version.
-#[derive(Drop)]
+#[derive(Clone, Copy)]
 pub enum Answer {
     Refused(u8),
     OtherMap,
@@ -186,21 +186,21 @@ pub enum Answer {
 }
 
 // The answer, with what is then held of the section's table.
-#[derive(Drop)]
+#[derive(Clone, Copy)]
 pub struct Stepped {
     pub answer: Answer,
     pub holding: Holding,
 }
 
 // The answer, with the state after it.
-#[derive(Drop)]
+#[derive(Clone, Copy)]
 pub struct Offered {
     pub answer: Answer,
     pub state: State,
 }
 
 // To a channel number.
-#[derive(Drop)]
+#[derive(Clone, Copy)]
 pub enum Tuned {
     Refused(u8),
     Digital {
@@ -225,7 +225,7 @@ pub enum Tuned {
 }
 
 // To the question for a channel's label: the name is the `size` bytes at `start` of the store, or the label is the lent fallback.
-#[derive(Drop)]
+#[derive(Clone, Copy)]
 pub enum Labelled {
     Refused(u8),
     Named { start: usize, size: usize },
