@@ -1,5 +1,6 @@
 // The shared types: what the records of the tables say, what the state holds, what the box answers.
 // They hold what document 01 names, and no function stands here: the meaning is specs/.
+#![tactic(auto)]
 
 // The tables, in the order of their places in the store.
 #[derive(Drop)]

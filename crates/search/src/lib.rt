@@ -1,6 +1,8 @@
 // The searches of the live tables, for channels, carriers, modes, ranges and names alike: nested loops over sections and records, left from
 // inside at the first match. They go over places that passed check 16, so a record is passed by its size and its descriptors alone.
 // What is found is an entry, a number that says where in the store the record stands; what the record says is read there.
+#![tactic(auto)]
+
 ghost use Rattle.std.specs.Prelude.{◌≡◌, ◌+◌, ◌-◌, ◌*◌, ◌%◌, ◌^◌, ◌≤◌, ◌<◌};
 ghost use Rattle.rules.specs.Bytes.{from};
 ghost use Rattle.rules.specs.Tables.{in_khz, carrier_khz};

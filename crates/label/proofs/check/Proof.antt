@@ -1,7 +1,7 @@
 -- The checks of tuning, and then the names.
 use mathlib.Core.Path.{sym, ◌∙◌}
 use mathlib.Core.Bool.{true, false}
-use borrow.Author.{Needs.needs, Tests.not-true, Tests.not-false}
+use borrow.Author.{Rules.rules, Tests.not-true, Tests.not-false}
 use Rattle.label.proofs.Laws.{check-early, check-names}
 use Rattle.label.proofs.check.Statement.{statement}
 use Rattle.label.proofs.check.Tie as tie
@@ -20,4 +20,4 @@ returns-3 c =
     check-names _ _ f.before.check.ensures f.if1.false true (sym (not-false _ c.if2.false) ∙ c.before.names-read.ensures)
 
 pub check-spec : {M : Type 1} → statement M
-check-spec = tie.close (tie.spec (λ c κs. search needs) returns (λ c κs. search needs) returns-2 returns-3)
+check-spec = tie.close (tie.spec (λ c κs. search rules) returns (λ c κs. search rules) returns-2 returns-3)

@@ -3,7 +3,7 @@ use mathlib.Core.Path.{◌≡◌, refl, sym}
 use Prim.Native.Nat.{◌+◌, ◌<◌}
 use native.Mathlib.{Numerals.add-one, Omega.arith}
 use lib.{ListN.length, ListN.drop, ListN.get_or, Seq.drop-cons, Seq.drop-length}
-use borrow.Author.{Needs.needs, Tests.eq-eqb, Tests.ne_eqb}
+use borrow.Author.{Rules.rules, Tests.eq-eqb, Tests.ne_eqb}
 use Rattle.rules.specs.Tables.{among}
 use Rattle.mms.proofs.among.Statement.{statement}
 use Rattle.mms.proofs.among.Tie as tie
@@ -46,5 +46,5 @@ returns-2 c =
     rw (l.invariant.1, e, drop-length rows)
 
 pub among-spec : {M : Type 1} → statement M
-among-spec = tie.close (tie.spec invariant-loop decreases-loop (λ c. (omega arith, refl)) (λ c. omega arith) returns (λ c. search needs) (λ c. search needs)
+among-spec = tie.close (tie.spec invariant-loop decreases-loop (λ c. (omega arith, refl)) (λ c. omega arith) returns (λ c. search rules) (λ c. search rules)
     (λ c. omega arith) loop-again returns-2)

@@ -2,7 +2,7 @@
 use Prim.Native.Nat.{◌/◌, ◌%◌}
 use native.Mathlib.Omega.{arith}
 use mathlib.Core.Path.{sym, ◌∙◌}
-use borrow.Author.{Needs.needs, Tests.eq-eqb, Tests.le-leb, Tests.leb-true}
+use borrow.Author.{Rules.rules, Tests.eq-eqb, Tests.le-leb, Tests.leb-true}
 use Rattle.rules.specs.{Bytes.byte, Tables.mode_zeros, Tables.mode_of, Tables.assigned}
 use Rattle.rules.proofs.Taken.{differ}
 use Rattle.mms.proofs.is_assigned.Statement.{statement}
@@ -27,6 +27,6 @@ returns-2 c = λ e.
     )
 
 pub is-assigned-spec : {M : Type 1} → statement M
-is-assigned-spec = tie.close (tie.spec (λ c κs. search needs) (λ c κs. search needs) (λ c κs. search needs) (λ c. λ e. absurd (differ (sym e)))
-    (λ c κs. search needs) (λ c κs. search needs) (λ c κs. search needs) returns-2 (λ c. λ e. absurd (differ (sym e)))
+is-assigned-spec = tie.close (tie.spec (λ c κs. search rules) (λ c κs. search rules) (λ c κs. search rules) (λ c. λ e. absurd (differ (sym e)))
+    (λ c κs. search rules) (λ c κs. search rules) (λ c κs. search rules) returns-2 (λ c. λ e. absurd (differ (sym e)))
     (λ c. λ e. absurd (differ (sym e))))

@@ -2,7 +2,7 @@
 use native.Mathlib.Omega.{arith}
 use mathlib.Core.Path.{refl, sym}
 use lib.ListN.{take}
-use borrow.Author.{Needs.needs, Tests.le-leb}
+use borrow.Author.{Rules.rules, Tests.le-leb}
 use Rattle.rules.specs.Bytes.{from}
 use Rattle.rules.specs.Tables.{mode_zeros, mode_of, assigned, mode_fair, mms}
 use Rattle.rules.proofs.Taken.{differ, both_left, both_right}
@@ -24,11 +24,11 @@ returns-3 c = λ e index low.
     (stands_at _ _ _ _ (counted-zero a.b.now _ _ refl (omega (arith, h)) c.before.before.if2.false) (omega (arith, h)))
 
 pub is-plain-spec : {M : Type 1} → statement M
-is-plain-spec = tie.close (tie.spec (λ c. search needs) (λ c κs. search needs) (λ c. λ e. absurd (differ (sym e)))
+is-plain-spec = tie.close (tie.spec (λ c. search rules) (λ c κs. search rules) (λ c. λ e. absurd (differ (sym e)))
     (λ c. omega (arith, long-enough _ _ _ c.before.short.ensures c.if1.false))
     (λ c. omega (arith, long-enough _ _ _ c.before.before.short.ensures c.before.if1.false))
     (λ c. λ e. absurd (differ (sym e)))
     (λ c. omega (arith, long-enough _ _ _ c.before.before.before.short.ensures c.before.before.if1.false))
-    (λ c. search needs) (λ c. search needs)
+    (λ c. search rules) (λ c. search rules)
     (λ c. omega (arith, long-enough _ _ _ c.before.before.before.short.ensures c.before.before.if1.false))
-    (λ c κs. search needs) returns-3)
+    (λ c κs. search rules) returns-3)

@@ -2,7 +2,7 @@
 use Prim.Native.Nat.{◌+◌, ◌≤◌}
 use native.Mathlib.Omega.{arith}
 use mathlib.Core.Path.{refl}
-use borrow.Author.{Needs.needs, Tests.not-false}
+use borrow.Author.{Rules.rules, Tests.not-false}
 use Rattle.rules.specs.Tables.{mms}
 use Rattle.fields.specs.Place.{Reaches}
 use Rattle.fields.proofs.Walks.{begin}
@@ -17,7 +17,7 @@ abbrev decreases-loop : tie.decreases-loop
 decreases-loop b o at₀ index₀ left₀ at index left = left
 
 loop-holds : tie.Need-loop-init invariant-loop decreases-loop
-loop-holds c = (begin mms (λ done. omega arith) (search needs), omega (arith, c.if1.false))
+loop-holds c = (begin mms (λ done. omega arith) (search rules), omega (arith, c.if1.false))
 
 add_at : tie.Need-overflow-add-at invariant-loop decreases-loop
 add_at c =
@@ -36,9 +36,9 @@ loop-again c =
     (onward _ _ (c.before.is_plain.ensures (not-false _ c.if2.false) l.index low) refl l.invariant.0 (omega arith), omega (arith, l.invariant.1))
 
 pub skim-spec : {M : Type 1} → statement M
-skim-spec = tie.close (tie.spec invariant-loop decreases-loop (λ c. search needs) (λ c. search needs) (λ c. search needs)
-    (λ c. begin mms (λ done. omega arith) (search needs))
-    loop-holds (λ c κs. search needs)
+skim-spec = tie.close (tie.spec invariant-loop decreases-loop (λ c. search rules) (λ c. search rules) (λ c. search rules)
+    (λ c. begin mms (λ done. omega arith) (search rules))
+    loop-holds (λ c κs. search rules)
     (λ c. omega (arith, c.before.before.before.loop.invariant.1))
-    add_at add-at-2 (λ c. search needs) (λ c. search needs) loop-again
+    add_at add-at-2 (λ c. search rules) (λ c. search rules) loop-again
     (λ c. c.before.loop.invariant.0) (λ c. c.before.before.before.loop.invariant.0))

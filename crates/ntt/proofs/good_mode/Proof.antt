@@ -1,5 +1,5 @@
 -- One test for each kind of mode, in the order of the rule.
-use borrow.Author.{Needs.needs, Tests.le-leb, Tests.lt-leb, Tests.eq-eqb, Tests.ne_eqb}
+use borrow.Author.{Rules.rules, Tests.le-leb, Tests.lt-leb, Tests.eq-eqb, Tests.ne_eqb}
 use Rattle.rules.specs.Text.{is_wide, is_long, good_mode}
 use Rattle.ntt.proofs.good_mode.Statement.{statement}
 use Rattle.ntt.proofs.good_mode.Tie as tie
@@ -42,5 +42,5 @@ returns-5 c = simp (
 
 pub good-mode-spec : {M : Type 1} → statement M
 unfolding good_mode
-good-mode-spec = tie.close (tie.spec (λ c κs. search needs) (λ c. simp (← c.before.is-page.ensures, c.if1.true)) (λ c κs. search needs)
+good-mode-spec = tie.close (tie.spec (λ c κs. search rules) (λ c. simp (← c.before.is-page.ensures, c.if1.true)) (λ c κs. search rules)
     returns-2 returns-3 returns-4 returns-5)

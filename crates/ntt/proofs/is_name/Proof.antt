@@ -1,6 +1,6 @@
 -- The flag, and then the number.
 use mathlib.Core.Path.{refl}
-use borrow.Author.{Needs.needs, Tests.eq-eqb, Tests.ne_eqb}
+use borrow.Author.{Rules.rules, Tests.eq-eqb, Tests.ne_eqb}
 use Rattle.rules.specs.{Tables.name_of, Label.is_name}
 use Rattle.ntt.proofs.is_name.Statement.{statement}
 use Rattle.ntt.proofs.is_name.Tie as tie
@@ -15,4 +15,4 @@ returns-2 c = rw (← c.before.before.byte.ensures, eq-eqb _ _ c.if1.false, c.be
 
 pub is-name-spec : {M : Type 1} → statement M
 unfolding is_name name_of
-is-name-spec = tie.close (tie.spec (λ c κs. search needs) (λ c κs. search needs) returns returns-2)
+is-name-spec = tie.close (tie.spec (λ c κs. search rules) (λ c κs. search rules) returns returns-2)

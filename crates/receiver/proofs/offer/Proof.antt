@@ -3,7 +3,7 @@
 use Prim.Native.Nat.{◌<◌, ◌≤◌}
 use mathlib.Core.Path.{sym, ◌∙◌}
 use lib.ListN.{length}
-use borrow.Author.{Needs.needs, Tests.not-true, Tests.not-false}
+use borrow.Author.{Rules.rules, Tests.not-true, Tests.not-false}
 use Rattle.rules.specs.Holding.{limit_of, store_size}
 use Rattle.rules.proofs.Told.{offer-told}
 use Rattle.receiver.proofs.Laws.{admitted, short-store, not-formed, refused}
@@ -50,6 +50,6 @@ returns-3 c =
     (r.answer, (r.bytes, offer-told a.state _ _ r.answer))
 
 pub offer-spec : {M : Type 1} → statement M
-offer-spec = tie.close (tie.spec (λ c κs. search needs) returns (λ c κs. search needs) returns-2 (λ c κs. search needs) (λ c. search needs) (λ c. search needs)
-    hold-requires returns-3 (λ c. search needs)
+offer-spec = tie.close (tie.spec (λ c κs. search rules) returns (λ c κs. search rules) returns-2 (λ c κs. search rules) (λ c. search rules) (λ c. search rules)
+    hold-requires returns-3 (λ c. search rules)
     (λ c. let h = c.before.before.hold.ensures in (h.0, (h.1, offer-told _ _ _ h.0))))

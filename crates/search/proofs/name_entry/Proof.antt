@@ -3,7 +3,7 @@ use Prim.Native.Nat.{◌-◌}
 use native.Mathlib.{Omega.arith, Nat.sub-zero, Nat.add-zero}
 use mathlib.Core.Path.{sym, ap, ◌∙◌}
 use mathlib.Core.Logic.{⊎_elim}
-use borrow.Author.{Needs.needs}
+use borrow.Author.{Rules.rules}
 use Rattle.rules.specs.Tables.{ntt}
 use Rattle.rules.specs.Label.{is_name}
 use Rattle.rules.specs.declared.Table.TheVariants.{Ntt}
@@ -91,12 +91,12 @@ returns-2 c =
 
 pub name-entry-spec : {M : Type 1} → statement M
 unfolding ntt
-name-entry-spec = tie.close (tie.spec invariant-loop2 decreases-loop2 invariant-loop decreases-loop (λ c κs. search needs) (λ c. search needs) (λ c. search needs) loop-holds
-    (λ c. search needs) (λ c κs. search needs) (λ c. search needs) (λ c κs. search needs) (λ c κs. search needs) (λ c κs. search needs) loop2-holds
-    (λ c κs. search needs) add-past-counted (λ c κs. search needs) (λ c. search needs) (λ c. search needs)
-    (λ c κs. search needs) (λ c κs. search needs)
+name-entry-spec = tie.close (tie.spec invariant-loop2 decreases-loop2 invariant-loop decreases-loop (λ c κs. search rules) (λ c. search rules) (λ c. search rules) loop-holds
+    (λ c. search rules) (λ c κs. search rules) (λ c. search rules) (λ c κs. search rules) (λ c κs. search rules) (λ c κs. search rules) loop2-holds
+    (λ c κs. search rules) add-past-counted (λ c κs. search rules) (λ c. search rules) (λ c. search rules)
+    (λ c κs. search rules) (λ c κs. search rules)
     (λ c. let w = c.before.before.before.before.before.before.before.before in
     omega (arith, small _ _ _ _ w.before.loop2.invariant (omega (arith, w.loop2-test.true))))
-    (λ c. search needs) entry-at-requires returns (λ c. search needs) (λ c. search needs) loop2-again
+    (λ c. search rules) entry-at-requires returns (λ c. search rules) (λ c. search rules) loop2-again
     (λ c. let l = c.before.before.before.before.before.before in omega (arith, l.loop-test.true, l.before.before.struct_known.given))
-    (λ c. search needs) loop-again returns-2)
+    (λ c. search rules) loop-again returns-2)

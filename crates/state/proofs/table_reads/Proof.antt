@@ -3,7 +3,7 @@ use Prim.Native.Nat.{◌-◌, ◌≤◌}
 use native.Mathlib.Omega.{arith}
 use mathlib.Core.Path.{◌≡◌, refl, sym, ap, ◌∙◌}
 use mathlib.Core.Bool.{true}
-use borrow.Author.{Needs.needs, Tests.not-true, Tests.not-false}
+use borrow.Author.{Rules.rules, Tests.not-true, Tests.not-false}
 use Rattle.rules.specs.{Tuning.live_count, Tuning.every, Tuning.place_reads, declared.Holding.Holding}
 use Rattle.state.proofs.Reading.{every_more, reads-fail, reads_all}
 use Rattle.state.proofs.table_reads.Statement.{statement}
@@ -47,5 +47,5 @@ returns-2 c =
 
 pub table-reads-spec : {M : Type 1} → statement M
 unfolding live_count every
-table-reads-spec = tie.close (tie.spec invariant-loop decreases-loop (λ c κs. search needs) (λ c. search needs) (λ c. search needs) loop-holds (λ c. search needs)
-    (λ c κs. search needs) returns (λ c. search needs) (λ c. search needs) loop-again returns-2)
+table-reads-spec = tie.close (tie.spec invariant-loop decreases-loop (λ c κs. search rules) (λ c. search rules) (λ c. search rules) loop-holds (λ c. search rules)
+    (λ c κs. search rules) returns (λ c. search rules) (λ c. search rules) loop-again returns-2)

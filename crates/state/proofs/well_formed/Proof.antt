@@ -1,5 +1,5 @@
 -- The first table that is not well formed decides; where the others are, the last one does.
-use borrow.Author.{Needs.needs, Tests.not-false}
+use borrow.Author.{Rules.rules, Tests.not-false}
 use Rattle.rules.specs.Holding.{well_formed}
 use Rattle.rules.specs.declared.Table.TheVariants.{Cds, Mms, Vcm, Dcm}
 use Rattle.state.proofs.Laws.{and-true, bad-table}
@@ -28,13 +28,13 @@ returns-5 c =
     )
 
 pub well-formed-spec : {M : Type 1} → statement M
-well-formed-spec = tie.close (tie.spec (λ c κs. search needs) (λ c κs. search needs)
+well-formed-spec = tie.close (tie.spec (λ c κs. search rules) (λ c κs. search rules)
     (λ c. bad-table _ Cds c.before.before.limit-of.ensures.0 c.before.is-formed.ensures c.if1.true)
-    (λ c κs. search needs)
+    (λ c κs. search rules)
     (λ c. bad-table _ Mms c.before.before.before.before.limit-of.ensures.0 c.before.is-formed2.ensures c.if2.true)
-    (λ c κs. search needs)
+    (λ c κs. search rules)
     (λ c. bad-table _ Vcm c.before.before.before.before.before.before.limit-of.ensures.0 c.before.is-formed3.ensures c.if3.true)
-    (λ c κs. search needs)
+    (λ c κs. search rules)
     (λ c. let f = c.before.before.before.before in
     bad-table _ Dcm f.before.before.before.before.limit-of.ensures.0 c.before.is-formed4.ensures c.if4.true)
-    (λ c κs. search needs) returns-5)
+    (λ c κs. search rules) returns-5)

@@ -1,13 +1,13 @@
 -- One arm for each part.
 use native.Mathlib.Omega.{arith}
-use borrow.Author.{Tests.ne_eqb, Needs.needs}
+use borrow.Author.{Tests.ne_eqb, Rules.rules}
 use Rattle.trials.specs.Coded.{label_part}
 use Rattle.trials.proofs.label_part.Statement.{statement}
 use Rattle.trials.proofs.label_part.Tie as tie
 
 pub label-part-spec : {M : Type 1} → statement M
 unfolding label_part
-label-part-spec = tie.close (tie.spec (λ c κs. search needs) (λ c κs. search needs) (λ c κs. search needs)
+label-part-spec = tie.close (tie.spec (λ c κs. search rules) (λ c κs. search rules) (λ c κs. search rules)
     (λ c. simp (c.before.match.keys1, c.label-kind.ensures))
     (λ c. simp (c.before.match.keys2, c.label-start.ensures))
     (λ c. simp (c.before.match.keys3, c.label-size.ensures))

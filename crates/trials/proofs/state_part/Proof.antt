@@ -1,5 +1,5 @@
 -- One arm for each part.
-use borrow.Author.{Tests.ne_eqb, Needs.needs}
+use borrow.Author.{Tests.ne_eqb, Rules.rules}
 use Rattle.trials.specs.Coded.{state_part}
 use native.Mathlib.Omega.{arith}
 use Rattle.trials.proofs.state_part.Statement.{statement}
@@ -7,8 +7,8 @@ use Rattle.trials.proofs.state_part.Tie as tie
 
 pub state-part-spec : {M : Type 1} → statement M
 unfolding state_part
-state-part-spec = tie.close (tie.spec (λ c. search needs) (λ c κs. search needs) (λ c κs. search needs) (λ c κs. search needs) (λ c κs. search needs)
-    (λ c κs. search needs)
+state-part-spec = tie.close (tie.spec (λ c. search rules) (λ c κs. search rules) (λ c κs. search rules) (λ c κs. search rules) (λ c κs. search rules)
+    (λ c κs. search rules)
     (λ c. simp c.before.match.keys1)
     (λ c. simp (c.before.match.keys2, c.holding-number.ensures))
     (λ c. simp (c.before.match.keys3, c.holding-number2.ensures))

@@ -4,7 +4,7 @@ use mathlib.Core.Path.{◌≡◌, refl, ap, ◌∙◌}
 use mathlib.Core.List.{List}
 use Prim.Native.Nat.{ℕ, ◌≤◌, ◌<◌}
 use lib.ListN.{length}
-use borrow.Author.{Needs.needs, Tests.le-leb, Tests.lt-leb}
+use borrow.Author.{Rules.rules, Tests.le-leb, Tests.lt-leb}
 use Rattle.rules.specs.{Holding.put, Label.labelled, Label.label_bytes, declared.State.State}
 use Rattle.trials.specs.Coded.{state_from, shown_in}
 use Rattle.trials.proofs.trial_shown.Statement.{statement}
@@ -47,4 +47,4 @@ returns-2 c =
     (ap length e, no_room _ _ (omega (arith, c.if1.false)) ∙ ap (λ (bytes : List ℕ). shown_in bytes a.out.now) e)
 
 pub trial-shown-spec : {M : Type 1} → statement M
-trial-shown-spec = tie.close (tie.spec (λ c κs. search needs) (λ c κs. search needs) put-requires (λ c. search needs) returns returns-2)
+trial-shown-spec = tie.close (tie.spec (λ c κs. search rules) (λ c κs. search rules) put-requires (λ c. search rules) returns returns-2)

@@ -1,5 +1,5 @@
 -- One arm for each part.
-use borrow.Author.{Tests.ne_eqb, Needs.needs}
+use borrow.Author.{Tests.ne_eqb, Rules.rules}
 use native.Mathlib.Omega.{arith}
 use Rattle.trials.specs.Coded.{tuned_part}
 use Rattle.trials.proofs.tuned_part.Statement.{statement}
@@ -7,7 +7,7 @@ use Rattle.trials.proofs.tuned_part.Tie as tie
 
 pub tuned-part-spec : {M : Type 1} → statement M
 unfolding tuned_part
-tuned-part-spec = tie.close (tie.spec (λ c κs. search needs) (λ c κs. search needs) (λ c κs. search needs)
+tuned-part-spec = tie.close (tie.spec (λ c κs. search rules) (λ c κs. search rules) (λ c κs. search rules)
     (λ c. simp (c.before.match.keys1, c.tuned-head.ensures))
     (λ c. simp (c.before.match.keys2, c.tuned-rest.ensures))
     (λ c. simp (c.before.match.keys3, c.tuned-symbols.ensures))

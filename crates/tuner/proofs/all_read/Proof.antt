@@ -1,6 +1,6 @@
 -- The first table that does not read right decides; where the others do, the last one does.
 use mathlib.Core.Path.{refl}
-use borrow.Author.{Needs.needs, Tests.not-false}
+use borrow.Author.{Rules.rules, Tests.not-false}
 use Rattle.rules.specs.declared.Table.TheVariants.{Cds, Mms, Vcm}
 use Rattle.rules.specs.Tuning.{all_read}
 use Rattle.state.proofs.Laws.{and-true}
@@ -26,10 +26,10 @@ returns-4 c =
     )
 
 pub all-read-spec : {M : Type 1} → statement M
-all-read-spec = tie.close (tie.spec (λ c κs. search needs)
+all-read-spec = tie.close (tie.spec (λ c κs. search rules)
     (λ c. one-unread _ _ Cds refl c.before.table-reads.ensures c.if1.true)
-    (λ c κs. search needs)
+    (λ c κs. search rules)
     (λ c. one-unread _ _ Mms refl c.before.table-reads2.ensures c.if2.true)
-    (λ c κs. search needs)
+    (λ c κs. search rules)
     (λ c. one-unread _ _ Vcm refl c.before.table-reads3.ensures c.if3.true)
-    (λ c κs. search needs) returns-4)
+    (λ c κs. search rules) returns-4)

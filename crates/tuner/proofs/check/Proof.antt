@@ -2,7 +2,7 @@
 use Prim.Native.Nat.{◌<◌, ◌≤◌}
 use mathlib.Core.Path.{sym, ◌∙◌}
 use lib.ListN.{length}
-use borrow.Author.{Tests.not-true, Tests.not-false, Needs.needs}
+use borrow.Author.{Tests.not-true, Tests.not-false, Rules.rules}
 use Rattle.rules.specs.Holding.{limit_of, store_size}
 use Rattle.tuner.proofs.Laws.{check-1, check-2, check-15, check-16, check-none}
 use Rattle.tuner.proofs.check.Statement.{statement}
@@ -48,5 +48,5 @@ returns-5 c = let a = c.before.before.before.before.before.before.before.before.
     (sym c.before.all_read.ensures ∙ not-false c.before.all_read.result c.if4.false)
 
 pub check-spec : {M : Type 1} → statement M
-check-spec = tie.close (tie.spec (λ c κs. search needs) returns (λ c κs. search needs) returns-2 (λ c κs. search needs) returns-3 (λ c κs. search needs)
+check-spec = tie.close (tie.spec (λ c κs. search rules) returns (λ c κs. search rules) returns-2 (λ c κs. search rules) returns-3 (λ c κs. search rules)
     returns-4 returns-5)

@@ -1,6 +1,6 @@
 -- The tests are made in the order 8, 9, 10; then what is left is what the descriptors leave, if they are included.
 use native.Mathlib.Omega.{arith}
-use borrow.Author.{Needs.needs, Tests.eq-eqb, Tests.ne_eqb}
+use borrow.Author.{Rules.rules, Tests.eq-eqb, Tests.ne_eqb}
 use Rattle.rules.specs.Tables.{vcm, channel_fair}
 use Rattle.fields.proofs.Laws.{part-whole, too_short, long-enough, stands_at, counted-not, taken-short, taken-zeros, taken-unfair, taken_here}
 use Rattle.fields.proofs.Laws.{step-no, step_so}
@@ -66,8 +66,8 @@ returns-5 c = λ index.
     step-no l _ _ index _ (taken-zeros l.block _ _ _ (omega (arith, h)) (cc))
 
 pub channel-step-spec : {M : Type 1} → statement M
-channel-step-spec = tie.close (tie.spec (λ c κs. search needs) returns
+channel-step-spec = tie.close (tie.spec (λ c κs. search rules) returns
     (λ c. omega (arith, long-enough _ _ _ c.before.short.ensures c.if1.false))
-    (λ c. search needs) (λ c. search needs)
+    (λ c. search rules) (λ c. search rules)
     (λ c. omega (arith, long-enough _ _ _ c.before.short.ensures c.if1.false))
-    (λ c κs. search needs) (λ c κs. search needs) add-past-counted (λ c κs. search needs) returns-2 add-behind returns-3 returns-4 returns-5)
+    (λ c κs. search rules) (λ c κs. search rules) add-past-counted (λ c κs. search rules) returns-2 add-behind returns-3 returns-4 returns-5)

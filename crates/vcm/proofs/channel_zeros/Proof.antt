@@ -1,5 +1,5 @@
 -- Each test is a clause of the rule; the last three are for transport 1.
-use borrow.Author.{Tests.eq-eqb, Tests.ne_eqb, Needs.needs}
+use borrow.Author.{Tests.eq-eqb, Tests.ne_eqb, Rules.rules}
 use Rattle.rules.specs.Tables.{channel_zeros, transport_of}
 use Rattle.vcm.proofs.channel_zeros.Statement.{statement}
 use Rattle.vcm.proofs.channel_zeros.Tie as tie
@@ -65,6 +65,6 @@ returns-6 c = simp (
 
 pub channel-zeros-spec : {M : Type 1} → statement M
 unfolding channel_zeros transport_of
-channel-zeros-spec = tie.close (tie.spec (λ c κs. search needs) (λ c κs. search needs)
+channel-zeros-spec = tie.close (tie.spec (λ c κs. search rules) (λ c κs. search rules)
     (λ c. simp (ne_eqb _ _ c.if1.true, ← c.before.byte2.ensures, ← c.before.before.byte.ensures))
-    returns-2 returns-3 (λ c κs. search needs) (λ c κs. search needs) (λ c κs. search needs) returns-4 returns-5 returns-6)
+    returns-2 returns-3 (λ c κs. search rules) (λ c κs. search rules) (λ c κs. search rules) returns-4 returns-5 returns-6)

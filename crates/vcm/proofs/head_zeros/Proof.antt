@@ -1,5 +1,5 @@
 -- Each test is a clause of the rule.
-use borrow.Author.{Tests.eq-eqb, Tests.ne_eqb, Needs.needs}
+use borrow.Author.{Tests.eq-eqb, Tests.ne_eqb, Rules.rules}
 use Rattle.rules.specs.Tables.{vcm_head_zeros}
 use Rattle.vcm.proofs.head_zeros.Statement.{statement}
 use Rattle.vcm.proofs.head_zeros.Tie as tie
@@ -31,6 +31,6 @@ returns-4 c = simp (
 
 pub head-zeros-spec : {M : Type 1} → statement M
 unfolding vcm_head_zeros
-head-zeros-spec = tie.close (tie.spec (λ c κs. search needs) (λ c κs. search needs)
+head-zeros-spec = tie.close (tie.spec (λ c κs. search rules) (λ c κs. search rules)
     (λ c. simp (ne_eqb _ _ c.if1.true, ← c.before.byte2.ensures, ← c.before.before.byte.ensures))
     returns-2 returns-3 returns-4)

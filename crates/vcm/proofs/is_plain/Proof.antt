@@ -2,7 +2,7 @@
 use native.Mathlib.{Omega.arith, Nat.add-zero}
 use mathlib.Core.Path.{refl, sym}
 use lib.ListN.{take}
-use borrow.Author.{Needs.needs, Tests.eq-eqb, Tests.ne_eqb}
+use borrow.Author.{Rules.rules, Tests.eq-eqb, Tests.ne_eqb}
 use Rattle.rules.specs.Bytes.{from}
 use Rattle.rules.specs.Tables.{channel_of, channel_zeros, channel_fair, vcm}
 use Rattle.rules.proofs.Taken.{differ, both_left, both_right}
@@ -40,15 +40,15 @@ returns-5 c = λ e index.
     (rw (not, add-zero) (stands_at _ _ _ _ (counted-not _ _ _ refl) (omega (arith, h))))
 
 pub is-plain-spec : {M : Type 1} → statement M
-is-plain-spec = tie.close (tie.spec (λ c. search needs) (λ c κs. search needs) (λ c. λ e. absurd (differ (sym e)))
+is-plain-spec = tie.close (tie.spec (λ c. search rules) (λ c κs. search rules) (λ c. λ e. absurd (differ (sym e)))
     (λ c. omega (arith, long-enough _ _ _ c.before.short.ensures c.if2.false))
     (λ c. omega (arith, long-enough _ _ _ c.before.before.short.ensures c.before.if2.false))
     (λ c. λ e. absurd (differ (sym e)))
     (λ c. omega (arith, long-enough _ _ _ c.before.before.before.short.ensures c.before.before.if2.false))
-    (λ c. search needs) (λ c. search needs)
+    (λ c. search rules) (λ c. search rules)
     (λ c. omega (arith, long-enough _ _ _ c.before.before.before.short.ensures c.before.before.if2.false))
-    (λ c κs. search needs) returns-3 (λ c κs. search needs) (λ c. λ e. absurd (differ (sym e)))
+    (λ c κs. search rules) returns-3 (λ c κs. search rules) (λ c. λ e. absurd (differ (sym e)))
     (λ c. omega (arith, long-enough _ _ _ c.before.short2.ensures c.if4.false))
-    (λ c. search needs) (λ c. search needs)
+    (λ c. search rules) (λ c. search rules)
     (λ c. omega (arith, long-enough _ _ _ c.before.short2.ensures c.if4.false))
-    (λ c κs. search needs) returns-5)
+    (λ c κs. search rules) returns-5)

@@ -2,7 +2,7 @@
 use Prim.Native.Nat.{◌/◌, ◌%◌}
 use native.Mathlib.Omega.{arith}
 use mathlib.Core.Path.{sym, ◌∙◌}
-use borrow.Author.{Needs.needs, Tests.eq-eqb, Tests.le-leb}
+use borrow.Author.{Rules.rules, Tests.eq-eqb, Tests.le-leb}
 use Rattle.rules.specs.Bytes.{byte}
 use Rattle.rules.specs.Tables.{transport_of, signal_of, channel_of, channel_zeros, standard_fair, channel_fair}
 use Rattle.rules.proofs.Taken.{differ}
@@ -23,7 +23,7 @@ returns-4 c = λ e.
     )
 
 pub is-right-spec : {M : Type 1} → statement M
-is-right-spec = tie.close (tie.spec (λ c κs. search needs) (λ c κs. search needs) (λ c. λ e. absurd (differ (sym e))) (λ c. λ e. absurd (differ (sym e)))
-    (λ c. λ e. absurd (differ (sym e))) returns-4 (λ c κs. search needs) (λ c κs. search needs)
+is-right-spec = tie.close (tie.spec (λ c κs. search rules) (λ c κs. search rules) (λ c. λ e. absurd (differ (sym e))) (λ c. λ e. absurd (differ (sym e)))
+    (λ c. λ e. absurd (differ (sym e))) returns-4 (λ c κs. search rules) (λ c κs. search rules)
     (λ c. λ e. rw (← c.before.before.channel-zeros.ensures, c.before.if5.true, ← c.channel-fair.ensures, e))
     (λ c. λ e. absurd (differ (sym e ∙ c.if5.false))))

@@ -1,5 +1,5 @@
 -- Each test is a clause of refusal 11.
-use borrow.Author.{Tests.le-leb, Tests.lt-leb, Needs.needs}
+use borrow.Author.{Tests.le-leb, Tests.lt-leb, Rules.rules}
 use Rattle.rules.specs.{Section.revision, Bytes.unless}
 use Rattle.section.specs.Closes.{closed_as}
 use Rattle.section.proofs.closing.revised.Statement.{statement}
@@ -27,5 +27,5 @@ returns-3 c = simp (
 
 pub revised-spec : {M : Type 1} → statement M
 unfolding closed_as revision unless
-revised-spec = tie.close (tie.spec (λ c. simp (lt-leb _ _ c.if1.true)) (λ c κs. search needs) (λ c κs. search needs) (λ c κs. search needs) returns-2
+revised-spec = tie.close (tie.spec (λ c. simp (lt-leb _ _ c.if1.true)) (λ c κs. search rules) (λ c κs. search rules) (λ c κs. search rules) returns-2
     returns-3)
