@@ -22,14 +22,14 @@ pub const LINES: usize = 1183744;
 pub const LABELS: usize = 2236416;
 
 // How many lines were written, and how many bytes they take.
-#[derive(Drop)]
+#[derive(Clone, Copy)]
 pub struct Lines {
     pub count: u64,
     pub size: usize,
 }
 
 // How many bytes of each buffer were written.
-#[derive(Drop)]
+#[derive(Clone, Copy)]
 pub struct Printed {
     pub heading: usize,
     pub lines: usize,

@@ -3,7 +3,7 @@
 #![tactic(auto)]
 
 // The tables, in the order of their places in the store.
-#[derive(Drop)]
+#[derive(Clone, Copy)]
 pub enum Table {
     Cds,
     Mms,
@@ -15,14 +15,14 @@ pub enum Table {
 // ---- what a record says, field by field as it is sent
 
 // So many steps of 10 k_hz (unit 0) or of 125 k_hz (unit 1).
-#[derive(Drop)]
+#[derive(Clone, Copy)]
 pub struct Measure {
     pub unit: u8,
     pub number: u16,
 }
 
 // A CDS record: so many carriers, the first one and the spacing from one to the next.
-#[derive(Drop)]
+#[derive(Clone, Copy)]
 pub struct Carriers {
     pub count: u8,
     pub spacing: Measure,
@@ -30,7 +30,7 @@ pub struct Carriers {
 }
 
 // An MMS record.
-#[derive(Drop)]
+#[derive(Clone, Copy)]
 pub struct Mode {
     pub system: u8,
     pub inner: u8,
@@ -40,14 +40,14 @@ pub struct Mode {
 }
 
 // What a channel record says behind its carrier reference: transport 0 is digital, transport 1 analogue.
-#[derive(Drop)]
+#[derive(Clone, Copy)]
 pub enum Signal {
     Digital { program: u16, mode: u8 },
     Analogue { scrambled: u8, standard: u8 },
 }
 
 // A channel record of the VCM. `kind` is its type, 0 or 1 (hidden); `source` is the application number where application is 1.
-#[derive(Drop)]
+#[derive(Clone, Copy)]
 pub struct Channel {
     pub number: u16,
     pub application: u8,
@@ -59,14 +59,14 @@ pub struct Channel {
 }
 
 // A range byte of the DCM.
-#[derive(Drop)]
+#[derive(Clone, Copy)]
 pub struct Range {
     pub defined: u8,
     pub count: u8,
 }
 
 // The head of a VCM: what stands between the map number and the records.
-#[derive(Drop)]
+#[derive(Clone, Copy)]
 pub struct VcmHead {
     pub included: u8,
     pub splice: u8,
@@ -75,14 +75,14 @@ pub struct VcmHead {
 }
 
 // The head of a DCM: `count` is the data length, so many range bytes.
-#[derive(Drop)]
+#[derive(Clone, Copy)]
 pub struct DcmHead {
     pub first: u16,
     pub count: u8,
 }
 
 // The three language bytes of a names section. (An array would do, if an enum could hold one: a section's head stands in one.)
-#[derive(Drop)]
+#[derive(Clone, Copy)]
 pub struct Language {
     pub first: u8,
     pub second: u8,
@@ -90,7 +90,7 @@ pub struct Language {
 }
 
 // The first three body bytes of the revision descriptor without their reserved bits.
-#[derive(Drop)]
+#[derive(Clone, Copy)]
 pub struct Revision {
     pub version: u8,
     pub number: u8,
@@ -99,7 +99,7 @@ pub struct Revision {
 
 // What a section that reads right is, for one who holds its bytes: its table, map number and language (0 where the table has none),
 // its revision, and the place where its closing list begins.
-#[derive(Drop)]
+#[derive(Clone, Copy)]
 pub struct SectionHead {
     pub table: Table,
     pub map: u16,
@@ -109,14 +109,14 @@ pub struct SectionHead {
 }
 
 // What the reader answers to a section.
-#[derive(Drop)]
+#[derive(Clone, Copy)]
 pub enum Read {
     Refused(u8),
     Right(SectionHead),
 }
 
 // What the question for a descriptor of the closing list answers: the body begins at `start` and has `size` bytes.
-#[derive(Drop)]
+#[derive(Clone, Copy)]
 pub enum Asked {
     Refused(u8),
     Absent,
@@ -126,7 +126,7 @@ pub enum Asked {
 // ---- what the state holds
 
 // A table's live version, or none: `present` is 1 or 0.
-#[derive(Drop)]
+#[derive(Clone, Copy)]
 pub struct LiveVersion {
     pub present: u8,
     pub version: u8,
@@ -134,7 +134,7 @@ pub struct LiveVersion {
 }
 
 // The version being gathered, or none. The ones of `held` are the numbers held: bit n is section n.
-#[derive(Drop)]
+#[derive(Clone, Copy)]
 pub struct GatheredVersion {
     pub present: u8,
     pub version: u8,
@@ -143,7 +143,7 @@ pub struct GatheredVersion {
 }
 
 // What is held of one table. `half` is the half set: the live one, and gathering uses the other.
-#[derive(Drop)]
+#[derive(Clone, Copy)]
 pub struct Holding {
     pub live: LiveVersion,
     pub gathered: GatheredVersion,
@@ -151,14 +151,14 @@ pub struct Holding {
 }
 
 // What is given at the start and never changes: the map number, and the language of names.
-#[derive(Drop)]
+#[derive(Clone, Copy)]
 pub struct Settings {
     pub map: u16,
     pub language: [u8; 3],
 }
 
 // What is held of each table.
-#[derive(Drop)]
+#[derive(Clone, Copy)]
 pub struct Tables {
     pub cds: Holding,
     pub mms: Holding,
@@ -168,7 +168,7 @@ pub struct Tables {
 }
 
 // The tables stand first, so that each holding begins at a multiple of its size: a state is copied by value, and quickly so.
-#[derive(Drop)]
+#[derive(Clone, Copy)]
 pub struct State {
     pub tables: Tables,
     pub settings: Settings,
@@ -177,7 +177,7 @@ pub struct State {
 // ---- what the box answers
 
 // To an offered section. `Stored` says how many sections are still missing, `Live` the version.
-#[derive(Drop)]
+#[derive(Clone, Copy)]
 pub enum Answer {
     Refused(u8),
     OtherMap,
@@ -187,21 +187,21 @@ pub enum Answer {
 }
 
 // The answer, with what is then held of the section's table.
-#[derive(Drop)]
+#[derive(Clone, Copy)]
 pub struct Stepped {
     pub answer: Answer,
     pub holding: Holding,
 }
 
 // The answer, with the state after it.
-#[derive(Drop)]
+#[derive(Clone, Copy)]
 pub struct Offered {
     pub answer: Answer,
     pub state: State,
 }
 
 // To a channel number.
-#[derive(Drop)]
+#[derive(Clone, Copy)]
 pub enum Tuned {
     Refused(u8),
     Digital {
@@ -226,7 +226,7 @@ pub enum Tuned {
 }
 
 // To the question for a channel's label: the name is the `size` bytes at `start` of the store, or the label is the lent fallback.
-#[derive(Drop)]
+#[derive(Clone, Copy)]
 pub enum Labelled {
     Refused(u8),
     Named { start: usize, size: usize },

@@ -49,7 +49,7 @@ fn outline_in(outlined: Outlined) -> Outline
 }
 
 // The numbers that a record goes by, and how many indices it takes.
-#[derive(Drop)]
+#[derive(Clone, Copy)]
 pub struct Span {
     pub first: u32,
     pub count: u8,
@@ -257,19 +257,19 @@ pub fn name_entry(s: State, store: &[u8], application: u8, number: u16) -> u64
 
 // ---- what the record of an entry says
 
-#[derive(Drop)]
+#[derive(Clone, Copy)]
 pub enum CarrierFound {
     At(u32),
     Nothing,
 }
 
-#[derive(Drop)]
+#[derive(Clone, Copy)]
 pub enum ModeFound {
     At(Mode),
     Nothing,
 }
 
-#[derive(Drop)]
+#[derive(Clone, Copy)]
 pub enum ChannelFound {
     At(Channel),
     Nothing,

@@ -9,14 +9,14 @@ use fields::Skip;
 use rules::{Asked, Revision};
 
 // What a closing list tells: its revision, or the refusal.
-#[derive(Drop)]
+#[derive(Clone, Copy)]
 pub enum Closed {
     Refused(u8),
     Revised(Revision),
 }
 
 // The revision descriptors met so far; of a single one, where its body is.
-#[derive(Drop)]
+#[derive(Clone, Copy)]
 pub enum Seen {
     Nothing,
     Once { start: usize, size: usize },

@@ -8,13 +8,13 @@ ghost use Rattle.section.specs.Reads.{named_as, header_as, headed_by, headed};
 use rules::Table;
 
 // The table that a header names, or its refusal.
-#[derive(Drop)]
+#[derive(Clone, Copy)]
 pub enum Header {
     Refused(u8),
     Names(Table),
 }
 
-#[derive(Drop)]
+#[derive(Clone, Copy)]
 pub enum Named {
     Nothing,
     Table(Table),

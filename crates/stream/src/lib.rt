@@ -13,7 +13,7 @@ ghost use Rattle.stream.specs.Tallied.{begun, intake_of, Room, Grew};
 use rules::{Answer, State};
 
 // The state of the box, how many sections it was offered, and how many of them it refused.
-#[derive(Drop)]
+#[derive(Clone, Copy)]
 pub struct Tally {
     pub state: State,
     pub sections: u64,
@@ -21,14 +21,14 @@ pub struct Tally {
 }
 
 // After a piece: the tally, and how many bytes the whole sections took.
-#[derive(Drop)]
+#[derive(Clone, Copy)]
 pub struct Fed {
     pub tally: Tally,
     pub used: usize,
 }
 
 // After a piece in a buffer: the tally, and how many bytes at the front of the buffer are kept.
-#[derive(Drop)]
+#[derive(Clone, Copy)]
 pub struct Absorbed {
     pub tally: Tally,
     pub kept: usize,
