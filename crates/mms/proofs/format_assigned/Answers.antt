@@ -6,9 +6,7 @@ use Rattle.rules.specs.{Tables.among, Tuning.every}
 use Rattle.mms.proofs.Laws.{searched, agree, told}
 use Rattle.mms.proofs.format_assigned.Goals as goal
 
-tested : (c : tie.After-among) → agree (searched _ _ c.among.ensures) (λ x. leb x 24) ≡ true
-unfolding among every
-tested c = refl
-
 pub returns : goal.returns
-returns c = c.among.ensures ∙ told _ (λ x. leb x 24) (tested c) c.args.x (search rules)
+returns c =
+    let agrees : agree (searched _ _ c.among.ensures) (λ x. leb x 24) ≡ true = unfold among every in refl in
+    c.among.ensures ∙ told _ (λ x. leb x 24) agrees c.args.x (search rules)

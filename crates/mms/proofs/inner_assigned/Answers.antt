@@ -5,9 +5,7 @@ use Rattle.rules.specs.{Tables.among, Tables.inner_codings, Tuning.every}
 use Rattle.mms.proofs.Laws.{searched, agree, told}
 use Rattle.mms.proofs.inner_assigned.Goals as goal
 
-tested : (c : tie.After-among) → agree (searched _ _ c.among.ensures) (λ x. among x inner_codings) ≡ true
-unfolding inner_codings among every
-tested c = refl
-
 pub returns : goal.returns
-returns c = c.among.ensures ∙ told _ (λ x. among x inner_codings) (tested c) c.args.x (search rules)
+returns c =
+    let agrees : agree (searched _ _ c.among.ensures) (λ x. among x inner_codings) ≡ true = unfold among every inner_codings in refl in
+    c.among.ensures ∙ told _ (λ x. among x inner_codings) agrees c.args.x (search rules)

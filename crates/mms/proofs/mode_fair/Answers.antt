@@ -12,6 +12,7 @@ returns-then-format_assigned c = simp (
   ← c.inner_assigned.ensures,
   c.if-system_assigned.true,
   ← c.system_assigned.ensures,
+)
 
 pub returns-then-inner_assigned : goal.returns-then-inner_assigned
 unfolding mode_fair assigned
@@ -22,9 +23,6 @@ returns-then-inner_assigned c = simp (
   ← c.inner_assigned.ensures,
   c.if-system_assigned.true,
   ← c.system_assigned.ensures,
-
-)
-
 )
 
 pub returns-then-system_assigned : goal.returns-then-system_assigned

@@ -5,9 +5,7 @@ use Rattle.rules.specs.{Tables.among, Tables.systems, Tuning.every}
 use Rattle.mms.proofs.Laws.{searched, agree, told}
 use Rattle.mms.proofs.system_assigned.Goals as goal
 
-tested : (c : tie.After-among) → agree (searched _ _ c.among.ensures) (λ x. among x systems) ≡ true
-unfolding systems among every
-tested c = refl
-
 pub returns : goal.returns
-returns c = c.among.ensures ∙ told _ (λ x. among x systems) (tested c) c.args.x (search rules)
+returns c =
+    let agrees : agree (searched _ _ c.among.ensures) (λ x. among x systems) ≡ true = unfold among every systems in refl in
+    c.among.ensures ∙ told _ (λ x. among x systems) agrees c.args.x (search rules)

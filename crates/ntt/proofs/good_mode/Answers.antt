@@ -15,6 +15,7 @@ returns-then-mode-ge160 c = simp (
   ← c.is_single.ensures,
   c.if-is_single.false,
   le-leb _ _ c.if-mode-ge160.true,
+)
 
 pub returns-then-mode-ne63 : goal.returns-then-mode-ne63
 unfolding good_mode is_long is_wide
@@ -25,6 +26,7 @@ returns-then-mode-ne63 c = simp (
   c.if-is_single.false,
   lt-leb _ _ c.if-mode-ge160.false,
   ne_eqb _ _ c.if-mode-ne63.true,
+)
 
 pub returns : goal.returns
 unfolding good_mode is_long is_wide
@@ -35,11 +37,6 @@ returns c = simp (
   c.if-is_single.false,
   lt-leb _ _ c.if-mode-ge160.false,
   eq-eqb _ _ c.if-mode-ne63.false,
-
-)
-
-)
-
 )
 
 pub returns-then-is_page : goal.returns-then-is_page
