@@ -2,10 +2,9 @@
 use mathlib.Core.Logic.{⊎_elim}
 use Rattle.rules.specs.Holding.{with}
 use borrow.Author.Rules.{rules}
-use Rattle.state.proofs.with_holding.Statement.{statement}
-use Rattle.state.proofs.with_holding.Tie as tie
+use Rattle.state.proofs.with_holding.Goals as goal
 
-returns : tie.Need-returns
+pub returns : goal.returns
 unfolding with
 returns c =
     ⊎_elim (λ w. rw w.2 (simp w.1.given.1))
@@ -13,7 +12,4 @@ returns c =
     (⊎_elim (λ w. rw w.2 (simp w.1.given.1))
     (⊎_elim (λ w. rw w.2 (simp w.1.given.1))
     (λ w. rw w.2 (simp w.1.given.1)))))
-    c.before.match.branch
-
-pub with-holding-spec : {M : Type 1} → statement M
-with-holding-spec = tie.close (tie.spec (λ c. search rules) (λ c. search rules) (λ c. search rules) (λ c. search rules) (λ c. search rules) returns)
+    c.match-t.branch
