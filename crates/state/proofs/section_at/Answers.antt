@@ -13,6 +13,6 @@ unfolding Gathering.section_at from
 returns c =
     let place = c.part-place in
     let front = place_inside place.result.now 0 (omega arith) in record {
-      result_value = rw (c.part.ensures.result_value, c.length_of-l.ensures.value, place.ensures.0);
-      ref_ptr_value = c.part.ensures.ref_ptr_value ∙ ap (further place.result.ref_ptr) front ∙ further-none place.result.ref_ptr ∙ place.ensures.1;
+      result_value = rw (c.part.ensures.result_value, c.length_of-l.ensures.value, place.ensures.result_value);
+      ref_ptr_value = c.part.ensures.ref_ptr_value ∙ ap (further place.result.ref_ptr) front ∙ further-none place.result.ref_ptr ∙ place.ensures.ref_ptr_value;
     }
