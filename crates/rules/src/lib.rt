@@ -14,7 +14,7 @@ pub enum Table {
 
 // ---- what a record says, field by field as it is sent
 
-// So many steps of 10 k_hz (unit 0) or of 125 k_hz (unit 1).
+// So many steps of 10 kHz (unit 0) or of 125 kHz (unit 1).
 #[derive(Clone, Copy)]
 pub struct Measure {
     pub unit: u8,

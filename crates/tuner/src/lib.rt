@@ -73,7 +73,7 @@ pub fn check(state: State, store: &[u8]) -> u8
 
 // ---- what the tuner is given
 
-// What the tuner reaches: 54,000 to 1,002,000 k_hz.
+// What the tuner reaches: 54,000 to 1,002,000 kHz.
 fn in_reach(khz: u32) -> bool
     ensures { result ≡ in_reach khz }
 {

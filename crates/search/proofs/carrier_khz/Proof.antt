@@ -1,4 +1,4 @@
--- Neither the product nor the sum overflows: a frequency is at most 65,535 x 125 k_hz, and k is at most 255.
+-- Neither the product nor the sum overflows: a frequency is at most 65,535 x 125 kHz, and k is at most 255.
 use native.Mathlib.Omega.{arith}
 use Rattle.search.proofs.Laws.{product}
 use Rattle.rules.specs.Tables.{carrier_khz}
