@@ -25,7 +25,7 @@ returns-then-not-well_formed c =
     let roomy : store_size (limit_of a.state) ≤ length a.store.now = rw c.store_size.ensures at c.if-store-store_size.false in
     let r =
     not-formed a.state a.store.now a.section.now roomy
-    (sym c.well-formed-2.ensures ∙ c.if-not-well_formed.true) in record {
+    (sym c.well_formed-2.ensures ∙ c.if-not-well_formed.true) in record {
       value = r.answer;
       store_after = r.bytes;
       answer_value = offer-told a.state _ _ r.answer;
@@ -36,7 +36,7 @@ hold-requires c =
     let a = c.args in
     let roomy : store_size (limit_of a.state) ≤ length a.store.now = rw c.store_size.ensures at c.if-store-store_size.false in
     admitted a.state a.store.now a.section.now c.in-Right.head roomy
-    (sym c.well-formed-2.ensures ∙ c.if-not-well_formed.false) (sym c.in-Right.is ∙ c.read_section-read.ensures.value)
+    (sym c.well_formed-2.ensures ∙ c.if-not-well_formed.false) (sym c.in-Right.is ∙ c.read_section-read.ensures.value)
 
 pub returns-in-Refused : goal.returns-in-Refused
 returns-in-Refused c =
@@ -44,7 +44,7 @@ returns-in-Refused c =
     let roomy : store_size (limit_of a.state) ≤ length a.store.now = rw c.store_size.ensures at c.if-store-store_size.false in
     let r =
     refused a.state a.store.now a.section.now roomy
-    (sym c.well-formed-2.ensures ∙ c.if-not-well_formed.false)
+    (sym c.well_formed-2.ensures ∙ c.if-not-well_formed.false)
     c.in-Refused.n (sym c.in-Refused.is ∙ c.read_section-read.ensures.value) in record {
       value = r.answer;
       store_after = r.bytes;
