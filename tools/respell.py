@@ -31,6 +31,8 @@ APART_IN = {
     "crates/examples/proofs/SectionFields.antt": {"no-language": "no_language_computed"},
 }
 CAMEL = re.compile(r"(?<![\w'])[a-z][a-z0-9]*(?:[A-Z][a-z0-9]*)+(?![\w'])")
+# a unit of the texts
+KEPT = {"kHz"}
 # on one line; a quote in a comment opens none
 STRING = re.compile(r'((?://|-- )[^\n]*|"(?:[^"\\\n]|\\.)*")')
 BLOCK = re.compile(r"^(\s*)(?:pub )?(?:record|data) ")
@@ -94,7 +96,7 @@ def respelled(text, all_names, to):
     for at, part in enumerate(parts):
         if not part.startswith('"'):
             part = all_names.sub(lambda m: to[m[0]], part) if all_names else part
-            parts[at] = CAMEL.sub(lambda m: snake(m[0]), part)
+            parts[at] = CAMEL.sub(lambda m: m[0] if m[0] in KEPT else snake(m[0]), part)
     return "".join(parts)
 
 

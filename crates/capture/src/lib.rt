@@ -1,6 +1,8 @@
 // A capture read from a reader, piece by piece: the loop of every program that follows one. After each read the sections
 // that are whole then are offered, and at the end of the input what is kept of the last. What a read that fails left unread is
 // not offered, and the answer says that one failed.
+#![tactic(auto)]
+
 ghost use Rattle.std.specs.Prelude.{◌≡◌, ◌+◌, ◌≤◌, ◌<◌, List, length};
 ghost use Rattle.rules.specs.Holding.{put};
 ghost use Rattle.rules.specs.Lineup.{english, fresh_box};

@@ -15,7 +15,7 @@ crc-nil r = refl
 pub crc-append : (r : ℕ) (a b : List ℕ) → crc_from r (a ++ b) ≡ crc_from (crc_from r a) b
 unfolding crc_from bits_of shift_all
 crc-append r [] b = refl
-crc-append r (x ∷ a) b = crc-append _ a b
+crc-append r (x ∷ a) b = crc-append (crc_from r (x ∷ [])) a b
 
 pub crc-lt : (r : ℕ) (s : List ℕ) → r < 2 ^ 32 → crc_from r s < 2 ^ 32
 unfolding crc_from shift_all

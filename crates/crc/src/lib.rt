@@ -1,5 +1,7 @@
 // The CRC of ISO/IEC 13818-1 Annex A, eight bytes a step. No table is written down: every loop over the eight bits of a byte
 // has the plain form of which the compiler makes a table in the program's constant data.
+#![tactic(auto)]
+
 ghost use Rattle.std.specs.Prelude.{[], ◌∷◌, ◌≡◌, ◌+◌, ◌*◌, ◌^◌, ◌≤◌, ◌<◌, length, drop};
 ghost use Rattle.std.specs.Int.Bits.{bit_xor};
 ghost use Rattle.rules.specs.Crc.{crc_from, crc_of, shift};
@@ -8,6 +10,7 @@ ghost use Rattle.crc.specs.Folding.{zeros, residue, four, four_at, eight_at, Fol
 // ---- a byte at a time
 
 // One zero bit into the register.
+#[tactic(auto, unfolding(rules::specs::Crc::shift))]
 fn zero_bit(r: u32) -> u32
     ensures { result ≡ shift r 0 }
 {
@@ -196,6 +199,7 @@ fn fold(e: u64, s: &[u8], i: usize) -> u64
 }
 
 // Four zero bytes into the register.
+#[tactic(auto, unfolding(rules::specs::Crc::crc_from, rules::specs::Crc::bits_of, rules::specs::Crc::shift_all))]
 fn four_zeros(r: u32) -> u32
     ensures { result ≡ zeros 4 r }
 {

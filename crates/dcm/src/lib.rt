@@ -1,4 +1,6 @@
 // The defined channels map, DCM: its head, its range byte, and the way over its ranges. b is a section without its CRC.
+#![tactic(auto)]
+
 ghost use Rattle.std.specs.Prelude.{◌≡◌, true, ◌+◌, ◌<◌};
 ghost use Rattle.rules.specs.Bytes.{from};
 ghost use Rattle.rules.specs.Layout.{entry, records};

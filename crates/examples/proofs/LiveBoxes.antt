@@ -37,7 +37,7 @@ border_state = record { tables = live5.tables; settings = record { map = 0; lang
 abbrev pub border_store : List ℕ
 border_store = store_of borders_cds borders_mms borders_vcm borders_dcm []
 
--- two sections of carriers, version 6: carrier 2 at 54,000 k_hz in section 0; carrier 2 at 57,000 and carrier 3 at 60,000 in section 1; for
+-- two sections of carriers, version 6: carrier 2 at 54,000 kHz in section 0; carrier 2 at 57,000 and carrier 3 at 60,000 in section 1; for
 -- channels 2 and 3 of map 0
 abbrev pub low_cds : List ℕ
 low_cds = hex "C2 30 13 00 02 01 01 01 00 00 15 18 00 93 03 E6 00 01 01 B7 C6 AD"

@@ -153,7 +153,7 @@ pub record SectionFields : Type 0 where
       channel_of (hex "FF FF EF FF FF FF FF FF FF")
       ≡ record { number = 4095; application = 1; path = 1; kind = 15; source = 65535; carrier = 255; signal = Digital 65535 255 }
   pub ones_range : range_of (hex "FF") ≡ record { defined = 1; count = 127 }
-  -- "each in its own unit": the spacing in 10 k_hz and the frequency in 125 k_hz, and the other way round
+  -- "each in its own unit": the spacing in 10 kHz and the frequency in 125 kHz, and the other way round
   pub units : map (λ k. carrier_khz (carriers_of (hex "02 02 58 81 C8")) k) (0 ∷ 1 ∷ 2 ∷ []) ≡ 57000 ∷ 63000 ∷ 69000 ∷ []
   pub units_other : map (λ k. carrier_khz (carriers_of (hex "03 80 30 17 70")) k) (0 ∷ 1 ∷ 2 ∷ []) ≡ 60000 ∷ 66000 ∷ 72000 ∷ []
   -- each bit and each zero bit over all values of its byte: a bit has the second half of its values, zero bits leave so many

@@ -46,7 +46,7 @@ channel_is r = record { index = 0; what = channel_of r } ∷ []
 abbrev pub range_at : (first : ℕ) → List ℕ → List (Numbered Range)
 range_at first r = record { index = first; what = range_of r } ∷ []
 
--- carriers 3 to 5 at 57,000, 63,000 and 69,000 k_hz; channels 7 to 9 defined
+-- carriers 3 to 5 at 57,000, 63,000 and 69,000 kHz; channels 7 to 9 defined
 abbrev pub small : List (Numbered Channel) → Plant
 small channels =
     record {
@@ -109,7 +109,7 @@ pub record TuningClauses : Type 0 where
       look_up (record { carriers = carriers_at 1 (hex "01 80 30 81 C8"); modes = []; channels = eight_analogue 1; ranges = range_at 7 (hex "83"); names = [] }) 8
       ≡ Tuned.Analogue 0 0 57000 2 0
   pub nineteen_first : look_up (small (eight 0 0)) 8 ≡ Tuned.Refused 19
-  -- 20: both ends, by one k_hz
+  -- 20: both ends, by one kHz
   pub twenty : map (λ khz. as_number (in_reach khz)) (53999 ∷ 54000 ∷ 54001 ∷ 1001999 ∷ 1002000 ∷ 1002001 ∷ []) ≡ 0 ∷ 1 ∷ 1 ∷ 1 ∷ 1 ∷ 0 ∷ []
   -- 21: digital alone, reference 0, also where a record has index 0, and no record
   pub twenty_one : map (λ mode. look_up (small (eight 3 mode)) 8) (0 ∷ 1 ∷ 2 ∷ []) ≡ Tuned.Refused 21 ∷ Tuned.Digital 0 0 57000 3 c12 ∷ Tuned.Refused 21 ∷ []

@@ -1,5 +1,7 @@
 // What the box firmware, which is in C, asks: one question by bytes and numbers alone (include/mofrindi.h). Nothing else is
 // exported.
+#![tactic(auto)]
+
 ghost use Rattle.std.specs.Prelude.{◌≡◌};
 ghost use Rattle.rules.specs.Section.{check};
 

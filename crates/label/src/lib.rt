@@ -1,6 +1,8 @@
 // The label of a channel: its name, a part of the lent store, or the fallback that the hotel lends. The checks that go for every
 // channel (1, 2, 15 and 16) are made by `check`; where they passed `look_up` looks names up without making them again; `ask_label` is
 // check and look-up, and `label` shows what it answers.
+#![tactic(auto)]
+
 ghost use Rattle.std.specs.Prelude.{◌≡◌, ◌≤◌, length};
 ghost use Rattle.rules.specs.Search.{first};
 ghost use Rattle.rules.specs.Label.{is_name, live_names, label_of, names_read, labelled, label_bytes};

@@ -1,5 +1,7 @@
 // The program: a capture in, the labels of its channels out. Standard input as for `lineup`; what is printed is the rules' `labels`. A read
 // that fails is taken for the end of the input.
+#![tactic(auto)]
+
 ghost use Rattle.std.specs.Prelude.{◌≡◌, ◌≤◌, length, take};
 ghost use Rattle.rules.specs.Bytes.{word};
 ghost use Rattle.rules.specs.Lineup.{fresh_box};

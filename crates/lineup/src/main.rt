@@ -1,6 +1,8 @@
 // The program: a capture in, its line-up out. Standard input: two bytes of map number, then sections back to back, each taking
 // 3 + L bytes; an unfinished last one is offered as it is. What is printed is the rules' line-up. A read that fails is taken
 // for the end of the input.
+#![tactic(auto)]
+
 ghost use Rattle.std.specs.Prelude.{◌≡◌, ◌≤◌, length, take};
 ghost use Rattle.rules.specs.Bytes.{word};
 ghost use Rattle.rules.specs.Lineup.{fresh_box, lineup};

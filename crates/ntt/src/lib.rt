@@ -1,5 +1,7 @@
 // The network text table, NTT: the text rule of 003, section 7.1, its name record, and the way over its records. b is a section
 // without its CRC.
+#![tactic(auto)]
+
 ghost use Rattle.std.specs.Prelude.{◌≡◌, ℕ, ◌+◌, ◌≤◌, ◌<◌};
 ghost use Rattle.rules.specs.Bytes.{from};
 ghost use Rattle.rules.specs.Layout.{extent, entry, records};

@@ -1,5 +1,7 @@
 // What is printed of a box, in two lent buffers: the lines in front, and one line for each channel that tunes or is an
 // application, ascending: that of the line-up, or that of its label. The checks of tuning are paid once for all channels.
+#![tactic(auto)]
+
 ghost use Rattle.std.specs.Prelude.{◌≡◌, ◌+◌, ◌*◌, ◌≤◌, length};
 ghost use mathlib.Core.List.{flatten};
 ghost use Rattle.rules.specs.Tuning.{tune};

@@ -1,5 +1,7 @@
 // Holding and going live: the state of a box by value, the store that is lent with it, and what an offered section does to
 // both. Refusals 1 and 2, the reader's 3 to 11, 12 and 13; other map, repeat, stored and live.
+#![tactic(auto)]
+
 ghost use Rattle.std.specs.Prelude.{◌≡◌};
 ghost use Rattle.rules.specs.Holding.{fresh, takes_in, offered, store_after};
 ghost use Rattle.rules.specs.Said.{answer_said, offer_said};

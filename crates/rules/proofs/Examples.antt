@@ -110,7 +110,7 @@ abbrev pub c12_mode : Mode
 c12_mode = record { system = 2; inner = 15; split = 0; format = 8; symbols = 5056941 }
 
 pub record Examples : Type 0 where
-  -- C1 `02 80 30 81 C8`: 57,000 and 63,000 k_hz
+  -- C1 `02 80 30 81 C8`: 57,000 and 63,000 kHz
   pub c1 :
       (read_section (hex "C2 30 13 00 01 01 01 02 80 30 81 C8 00 93 03 E5 00 00 74 9E FB E2")
       ≡ right (c1_content (record { tag = 0x93; body = hex "E5 00 00" } ∷ []) (record { version = 5; number = 0; last = 0 })))
@@ -135,7 +135,7 @@ pub record Examples : Type 0 where
   pub c5 :
       (check (hex "C2 30 13 00 01 01 01 00 80 30 81 C8 00 93 03 E5 00 00 83 06 E9 89") ≡ 10)
       × (check (hex "C2 30 13 00 01 01 01 02 C0 30 81 C8 00 93 03 E5 00 00 C8 95 54 C2") ≡ 9)
-  -- C6 `FF BF FF FF FF`: at first index 1 the last carrier is 524,256,125 k_hz; at 2, refusal 10
+  -- C6 `FF BF FF FF FF`: at first index 1 the last carrier is 524,256,125 kHz; at 2, refusal 10
   pub c6 :
       (check (hex "C2 30 13 00 01 01 01 FF BF FF FF FF 00 93 03 E5 00 00 47 F4 BE CA") ≡ 0)
       × ((carriers_of (hex "FF BF FF FF FF")).count ≡ 255)

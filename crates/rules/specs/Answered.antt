@@ -69,7 +69,7 @@ pub data Tunes (p : Plant) (c : Channel) : Tuned → Type 0 where
   application : c.application ≡ 1 → Tunes p c (Tuned.Application (hidden c) c.path c.source)
   -- 19: "carrier reference 0 or without a carrier"
   no_carrier : (c.application ≡ 1 → ⊥) → (c.carrier ≡ 0) ⊎ Nowhere (CarrierIs c.carrier) p.carriers → Tunes p c (Tuned.Refused 19)
-  -- 20: "frequency below 54,000 or above 1,002,000 k_hz"
+  -- 20: "frequency below 54,000 or above 1,002,000 kHz"
   out_of_reach : {khz : ℕ} → (c.application ≡ 1 → ⊥) → Carried p c khz → (khz < 54000) ⊎ (1002000 < khz) → Tunes p c (Tuned.Refused 20)
   -- "analogue (frequency, standard, scrambled), with path and hidden"
   analogue : {khz scrambled standard : ℕ} → (c.application ≡ 1 → ⊥) → Carried p c khz → 54000 ≤ khz → khz ≤ 1002000

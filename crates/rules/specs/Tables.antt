@@ -28,7 +28,7 @@ carriers_of r =
       first = record { unit = byte 3 r / 128; number = byte 3 r % 128 * 256 + byte 4 r };
     }
 
--- "A unit bit of 0 is 10 k_hz, 1 is 125 k_hz."
+-- "A unit bit of 0 is 10 kHz, 1 is 125 kHz."
 unfoldable pub in_khz : Measure → ℕ
 in_khz m = cond (eqb m.unit 0) (m.number * 10) (m.number * 125)
 

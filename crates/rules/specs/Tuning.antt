@@ -156,11 +156,11 @@ tune_signal p c khz (Signal.Digital program mode) =
     (found (first (is_mode mode) p.modes) 21 (λ m.
     Tuned.Digital (hidden c) c.path khz program m.what))
 
--- what the tuner reaches: 54,000 to 1,002,000 k_hz
+-- what the tuner reaches: 54,000 to 1,002,000 kHz
 unfoldable pub in_reach : (khz : ℕ) → Bool
 in_reach khz = leb 54000 khz && leb khz 1002000
 
--- refusal 20: frequency below 54,000 or above 1,002,000 k_hz
+-- refusal 20: frequency below 54,000 or above 1,002,000 kHz
 unfoldable pub tune_khz : Plant → Channel → (khz : ℕ) → Tuned
 tune_khz p c khz = needs (in_reach khz) 20 (tune_signal p c khz c.signal)
 

@@ -1,5 +1,6 @@
 // The shared types: what the records of the tables say, what the state holds, what the box answers.
 // They hold what document 01 names, and no function stands here: the meaning is specs/.
+#![tactic(auto)]
 
 // The tables, in the order of their places in the store.
 #[derive(Clone, Copy)]
@@ -13,7 +14,7 @@ pub enum Table {
 
 // ---- what a record says, field by field as it is sent
 
-// So many steps of 10 k_hz (unit 0) or of 125 k_hz (unit 1).
+// So many steps of 10 kHz (unit 0) or of 125 kHz (unit 1).
 #[derive(Clone, Copy)]
 pub struct Measure {
     pub unit: u8,

@@ -1,4 +1,6 @@
 // For the tests alone, and no part of the box: the line-up and the labels of an input in memory, so that one start of a program prints many.
+#![tactic(auto)]
+
 ghost use Rattle.std.specs.Prelude.{◌≡◌, [], ◌∷◌, ◌++◌, length, take};
 ghost use Rattle.rules.specs.Bytes.{word};
 ghost use Rattle.rules.specs.Lineup.{fresh_box, lineup};

@@ -72,6 +72,8 @@ module _ (t : Table) (store : List ℕ) where
       (qs : List (Numbered (RecordOf t)))
       → Alike ys rs → Alike zs qs → Alike (ys ++ zs) (rs ++ qs)
   alike-append [] [] zs qs a b = b
+  alike-append [] (r ∷ rs) zs qs a b = elim a [ ]
+  alike-append (y ∷ ys) [] zs qs a b = elim a [ ]
   alike-append (y ∷ ys) (r ∷ rs) zs qs a b = (a.0, a.1, a.2, alike-append ys rs zs qs a.3 b)
 
   -- the entry of the first match names the first match
@@ -79,6 +81,8 @@ module _ (t : Table) (store : List ℕ) where
       → record_named t store (entry_number (first (λ y. test y.row) ys)) ≡ first test rs
   unfolding first entry_number
   alike-first test [] [] a = no-entry t store 0 refl
+  alike-first test [] (r ∷ rs) a = elim a [ ]
+  alike-first test (y ∷ ys) [] a = elim a [ ]
   alike-first test (y ∷ ys) (r ∷ rs) (n, low, e, a) =
       go (test y.row) (alike-first test ys rs a) ∙ ap (λ (z : Numbered (RecordOf t)). cond (test z) (some r) (first test rs)) e
     where
@@ -92,6 +96,8 @@ module _ (t : Table) (store : List ℕ) where
       → (y : Standing (RecordOf t)) → first (λ z. test z.row) ys ≡ some y → y.at < 2 ^ 32
   unfolding first
   low_first test [] [] a y e = let z : ◌≡◌ {A = ℕ} 0 1 = cc in absurd (omega arith)
+  low_first test [] (r ∷ rs) a y e = elim a [ ]
+  low_first test (x ∷ ys) [] a y e = elim a [ ]
   low_first test (x ∷ ys) (r ∷ rs) (n, low, q, a) y e = go (test x.row) e (low_first test ys rs a y)
     where
       go : (b : Bool) → cond b (some x) (first (λ z. test z.row) ys) ≡ some y → (first (λ z. test z.row) ys ≡ some y → y.at < 2 ^ 32) → y.at < 2 ^ 32

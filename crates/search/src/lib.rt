@@ -1,6 +1,8 @@
 // The searches of the live tables, for channels, carriers, modes, ranges and names alike: nested loops over sections and records, left from
 // inside at the first match. They go over places that passed check 16, so a record is passed by its size and its descriptors alone.
 // What is found is an entry, a number that says where in the store the record stands; what the record says is read there.
+#![tactic(auto)]
+
 ghost use Rattle.std.specs.Prelude.{◌≡◌, ◌+◌, ◌-◌, ◌*◌, ◌%◌, ◌^◌, ◌≤◌, ◌<◌};
 ghost use Rattle.rules.specs.Bytes.{from};
 ghost use Rattle.rules.specs.Tables.{in_khz, carrier_khz};
@@ -283,7 +285,7 @@ fn place_in(entry: u64) -> usize
     ((entry - 1) % 4294967296) as usize
 }
 
-// A unit of 0 is 10 k_hz, 1 is 125 k_hz.
+// A unit of 0 is 10 kHz, 1 is 125 kHz.
 fn in_khz(m: Measure) -> u32
     ensures value { result ≡ in_khz m }
     ensures upper_bound { result ≤ 8191875 }
@@ -313,7 +315,7 @@ fn beyond(first: u32, index: u8) -> u8
     index - first as u8
 }
 
-// The frequency in k_hz of the carrier of an index, as its record says it: whether the tuner reaches it is judged by `tuner`.
+// The frequency in kHz of the carrier of an index, as its record says it: whether the tuner reaches it is judged by `tuner`.
 pub fn carrier_at(store: &[u8], entry: u64, index: u8) -> CarrierFound
     ensures { result ≡ carrier_found index (record_named table.Cds store.now entry) }
 {

@@ -1,4 +1,6 @@
 // One section: what it reads as, refusals 3 to 11, and the question for a descriptor of its closing list.
+#![tactic(auto)]
+
 ghost use Rattle.std.specs.Prelude.{◌≡◌, ◌≤◌, length};
 ghost use Rattle.rules.specs.Section.{is_number, fitting, content, read_section, read_as, ask, part_of, part_at};
 ghost use Rattle.rules.specs.Said.{read_said, asked_said, section_said, ask_said};

@@ -1,6 +1,8 @@
 // What a state and the store that is lent with it are, for those who hold and those who tune: how many sections a table may have,
 // whether the state is well formed, whose map a section is of, where the places are, the section that stands in one, and check 16 of
 // a table's places.
+#![tactic(auto)]
+
 ghost use Rattle.std.specs.Prelude.{◌≡◌, ◌&&◌, ◌≤◌, eqb};
 ghost use Rattle.rules.specs.Holding.{limit_of, index_of, holding_of, with, place_of, store_size, section_at, live_at, gathered_at, well_formed, same_language, not_ours};
 ghost use Rattle.rules.specs.Tuning.{is_section, place_reads, table_reads};

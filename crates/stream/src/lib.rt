@@ -1,5 +1,7 @@
 // A capture read piece by piece: the sections that are whole are offered and counted, and the bytes of one that is not whole
 // yet are kept at the front of the buffer for the next piece. By the rules' `in_pieces` it does not matter how a capture is cut.
+#![tactic(auto)]
+
 ghost use Rattle.std.specs.Prelude.{◌≡◌, ◌+◌, ◌-◌, ◌≤◌, [], ◌∷◌, length, take};
 ghost use Rattle.rules.specs.Bytes.{word, from};
 ghost use Rattle.rules.specs.Holding.{put};

@@ -1,4 +1,6 @@
 // The tables by their names: what the reader, and who goes over a section's records, asks of the table that the section is of.
+#![tactic(auto)]
+
 ghost use Rattle.std.specs.Prelude.{◌≡◌};
 ghost use Rattle.rules.specs.Bytes.{from};
 ghost use Rattle.rules.specs.Layout.{records};

@@ -1,5 +1,7 @@
 // The lines of the printed line-up and labels, written into a lent buffer at a place; every other byte of it stays. A number of 64 bits
 // has at most 20 digits, so each part of a line asks for room by its own text and 20 bytes for a number.
+#![tactic(auto)]
+
 ghost use Rattle.std.specs.Prelude.{◌≡◌, ◌+◌, ◌*◌, ◌<◌, ◌≤◌, length};
 ghost use mathlib.Core.List.{[], ◌∷◌, ◌++◌, flatten};
 ghost use Rattle.rules.specs.Lineup.{text, decimal, version, version_lines, mode_fields, channel_line};

@@ -1,5 +1,7 @@
 // What a fresh box answers to each section of a capture, a line each. Standard input: two bytes of map number, then sections
 // back to back, each taking 3 + L bytes; an unfinished last one is offered as it is.
+#![tactic(auto)]
+
 ghost use Rattle.std.specs.Prelude.{◌≡◌, ◌+◌, ◌≤◌, length, take};
 
 use rules::{Answer, State};

@@ -87,7 +87,7 @@ offered_part o part = cond (eqb part 7) (answer_number o.answer) (state_part o.s
 
 -- ---- what a channel is tuned to
 
--- a kind, two bytes, and a frequency in k_hz from bit 32 on
+-- a kind, two bytes, and a frequency in kHz from bit 32 on
 unfoldable pub head_number : (kind hidden path khz : ℕ) → ℕ
 head_number kind hidden path khz = kind + hidden * 0x100 + path * 0x10000 + khz * 0x100000000
 

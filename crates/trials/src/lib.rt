@@ -1,6 +1,8 @@
 // For the tests alone, and no part of the box: the receiver and the tuner behind bytes and numbers, so that C can offer a
 // section to any state with any store, or ask any channel of them, and see what comes of it. One call gives one part, so a
 // caller of trial_offer lends a copy of the store for each.
+#![tactic(auto)]
+
 ghost use Rattle.std.specs.Prelude.{◌≡◌, length};
 ghost use Rattle.rules.specs.Holding.{fresh, offered, store_after};
 ghost use Rattle.rules.specs.Tuning.{tune};

@@ -1,6 +1,8 @@
 // From number to tuner: what a channel number is tuned to, or the number of the refusal. The checks that go for every channel (1,
 // 2, 15 and 16) are made by `check`; where they passed `look_up` looks channels up without making them again; `tune` is check and
 // look-up.
+#![tactic(auto)]
+
 ghost use Rattle.std.specs.Prelude.{◌≡◌};
 ghost use Rattle.rules.specs.Search.{first};
 ghost use Rattle.rules.specs.Tuning.{all_live, all_read, plant, is_carrier, is_mode, is_channel, defined, in_reach, tune_signal, tune_khz, tune_carrier, tune_channel};
@@ -71,7 +73,7 @@ pub fn check(state: State, store: &[u8]) -> u8
 
 // ---- what the tuner is given
 
-// What the tuner reaches: 54,000 to 1,002,000 k_hz.
+// What the tuner reaches: 54,000 to 1,002,000 kHz.
 fn in_reach(khz: u32) -> bool
     ensures { result ≡ in_reach khz }
 {

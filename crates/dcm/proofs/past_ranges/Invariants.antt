@@ -1,0 +1,13 @@
+use native.Mathlib.Omega.{arith}
+use borrow.Author.Rules.{rules}
+use Rattle.rules.specs.{Bytes.byte, Tables.dcm}
+use Rattle.fields.specs.Place.{Reaches}
+use Rattle.fields.proofs.Walks.{none, begin, stop, end, joined}
+use Rattle.dcm.proofs.Onward.{low, onward}
+use Rattle.dcm.proofs.past_ranges.Given as goal
+
+abbrev pub invariant-loop-left : goal.invariant-loop-left
+invariant-loop-left l = Reaches dcm l.b l.initial.at l.initial.index l.initial.left l.at l.index l.left
+
+abbrev pub decreases-loop-left : goal.decreases-loop-left
+decreases-loop-left l = l.left

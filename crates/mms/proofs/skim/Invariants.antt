@@ -1,0 +1,15 @@
+use Prim.Native.Nat.{◌+◌, ◌≤◌}
+use native.Mathlib.Omega.{arith}
+use mathlib.Core.Path.{refl}
+use borrow.Author.{Rules.rules, Tests.not-false}
+use Rattle.rules.specs.Tables.{mms}
+use Rattle.fields.specs.Place.{Reaches}
+use Rattle.fields.proofs.Walks.{begin}
+use Rattle.mms.proofs.Onward.{onward}
+use Rattle.mms.proofs.skim.Given as goal
+
+abbrev pub invariant-loop-left : goal.invariant-loop-left
+invariant-loop-left l = Reaches mms l.b l.o.at l.o.first l.o.count l.at l.index l.left × (l.index + l.left ≤ 256)
+
+abbrev pub decreases-loop-left : goal.decreases-loop-left
+decreases-loop-left l = l.left

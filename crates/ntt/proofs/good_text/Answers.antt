@@ -1,0 +1,34 @@
+-- Whether all of it is a text is whether blocks fill it from the place that the walk has come to.
+use Prim.Native.Nat.{◌-◌}
+use native.Mathlib.Omega.{arith}
+use lib.ListN.{length}
+use borrow.Author.Rules.{rules}
+use Rattle.ntt.proofs.Texts.{Comes, text-empty, text-begin, text-end, text-short, text-mode, text-on, tail-whole}
+use Rattle.ntt.proofs.good_text.Goals as goal
+
+pub returns-then-s-eq0 : goal.returns-then-s-eq0
+returns-then-s-eq0 c = text-empty _ c.if-s-eq0.true
+
+pub loop-at-init : goal.loop-at-init
+loop-at-init c = text-begin _ c.if-s-eq0.false
+
+pub returns-then-rest-size : goal.returns-then-rest-size
+returns-then-rest-size c =
+    text-short c.loop-at.invariant c.loop-at-test.true (tail-whole _ _) c.block_size-size.ensures.value c.if-rest-size.true
+
+-- a block that is there is at least one byte, so the place moves on
+pub loop-at-smaller : goal.loop-at-smaller
+loop-at-smaller c =
+    omega (arith, c.if-rest-size.false, c.block_size-size.ensures.result_nonzero)
+
+pub loop-at-preserved : goal.loop-at-preserved
+loop-at-preserved c =
+    let size = c.block_size-size.ensures in
+    text-on c.loop-at.invariant c.loop-at-test.true (tail-whole _ _) size.value c.if-rest-size.false (cc) size.result_nonzero.0 c.if-good_mode.true
+
+pub returns-else-good_mode : goal.returns-else-good_mode
+returns-else-good_mode c =
+    text-mode c.loop-at.invariant c.loop-at-test.true (tail-whole _ _) c.block_size-size.ensures.value c.if-rest-size.false (cc) c.if-good_mode.false
+
+pub returns : goal.returns
+returns c = text-end c.loop-at.invariant c.loop-at-test.false

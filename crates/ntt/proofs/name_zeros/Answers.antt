@@ -1,0 +1,8 @@
+-- The seven bits below the application flag.
+use borrow.Author.Rules.{rules}
+use Rattle.rules.specs.Tables.{name_zeros}
+use Rattle.ntt.proofs.name_zeros.Goals as goal
+
+pub returns : goal.returns
+unfolding name_zeros
+returns c = simp (← c.byte.ensures)

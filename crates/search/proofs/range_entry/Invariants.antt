@@ -1,0 +1,26 @@
+use Prim.Native.Nat.{◌+◌, ◌-◌, ◌*◌, ◌≤◌}
+use native.Mathlib.{Omega.arith, Nat.sub-zero}
+use mathlib.Core.Path.{refl, sym, ap, ◌∙◌}
+use mathlib.Core.Logic.{⊎_elim}
+use borrow.Author.Rules.{rules}
+use Rattle.rules.specs.Tables.{dcm}
+use Rattle.rules.specs.Tuning.{is_range}
+use Rattle.rules.specs.declared.Table.TheVariants.{Dcm}
+use Rattle.fields.proofs.Laws.{at-got, at-no}
+use Rattle.search.specs.{Entries.outline_in, Entries.entry_of, declared.Span.Span}
+use Rattle.search.proofs.Sections.{one_of, behind-all, live-place}
+use Rattle.search.proofs.Entries.{Outside, Inside, set-off, none_left, go-in, any-bit, go-out, fits, small, never, match, pass}
+use Rattle.search.proofs.range_entry.Given as goal
+
+abbrev pub invariant-loop-k : goal.invariant-loop-k
+invariant-loop-k l =
+    Inside l.s l.store Dcm (is_range l.number) 0 l.start l.i (l.k-end - l.k) l.index l.b l.at (entry_of l.s l.store Dcm l.number) × (l.index ≤ 65535 + 255 * l.k)
+
+abbrev pub decreases-loop-k : goal.decreases-loop-k
+decreases-loop-k l = l.k-end - l.k
+
+abbrev pub invariant-loop-i : goal.invariant-loop-i
+invariant-loop-i l = Outside l.s l.store Dcm (is_range l.number) l.i (entry_of l.s l.store Dcm l.number)
+
+abbrev pub decreases-loop-i : goal.decreases-loop-i
+decreases-loop-i l = l.sections - l.i

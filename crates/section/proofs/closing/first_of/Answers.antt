@@ -1,0 +1,43 @@
+-- What the search from the start finds is what the search from here on finds.
+use Prim.Native.Nat.{◌-◌}
+use native.Mathlib.Omega.{arith}
+use mathlib.Core.Path.{◌≡◌, refl, sym, ◌∙◌}
+use mathlib.Core.Bool.{true}
+use lib.ListN.{length}
+use borrow.Author.Rules.{rules}
+use Rattle.rules.specs.{Bytes.byte, Bytes.from, Descriptors.closing}
+use Rattle.section.specs.Closes.{filled, first_in}
+use Rattle.fields.proofs.Laws.{at-no}
+use Rattle.section.proofs.Lists.{here, first-end, first-never, first-here, first-pass, listed-on}
+use Rattle.section.proofs.closing.first_of.Goals as goal
+
+pub returns-then-b-at : goal.returns-then-b-at
+unfolding byte
+returns-then-b-at c =
+    let l = c.loop-at in
+    let h = here _ _ _ c.past_one-next.ensures _ c.in-At.is in
+    rw c.byte.ensures (sym (l.invariant.1 ∙ first-here _ _ _ _ h l.invariant.0 c.if-b-at.true))
+
+pub loop-at-preserved : goal.loop-at-preserved
+unfolding byte
+loop-at-preserved c =
+    let l = c.loop-at in
+    let h = here _ _ _ c.past_one-next.ensures _ c.in-At.is in
+    (listed-on _ _ _ h l.invariant.0, l.invariant.1 ∙ first-pass _ _ _ _ h l.invariant.0 c.if-b-at.false)
+
+pub returns-in-Refused : goal.returns-in-Refused
+returns-in-Refused c =
+    absurd (first-never _ _ c.loop-at-test.true _ (at-no _ _ _ c.past_one-next.ensures _ c.in-Refused.is)
+    c.loop-at.invariant.0)
+
+pub loop-at-init : goal.loop-at-init
+loop-at-init c = (search rules, refl)
+
+pub overflow_add-result : goal.overflow_add-result
+overflow_add-result c = let h = here _ _ _ c.past_one-next.ensures _ c.in-At.is in omega arith
+
+pub loop-at-smaller : goal.loop-at-smaller
+loop-at-smaller c = let h = here _ _ _ c.past_one-next.ensures _ c.in-At.is in omega arith
+
+pub returns : goal.returns
+returns c = sym (c.loop-at.invariant.1 ∙ first-end _ _ _ (omega arith))

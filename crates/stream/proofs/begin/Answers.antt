@@ -1,0 +1,8 @@
+-- A fresh state, and nothing counted.
+use borrow.Author.Rules.{rules}
+use Rattle.stream.specs.Tallied.{begun}
+use Rattle.stream.proofs.begin.Goals as goal
+
+pub returns : goal.returns
+unfolding begun
+returns c = rw c.start.ensures

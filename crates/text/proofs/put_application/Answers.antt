@@ -1,0 +1,13 @@
+-- The parts of the line, one behind the other.
+use native.Mathlib.Omega.{arith}
+use Rattle.rules.specs.Lineup.{text}
+use Rattle.text.proofs.Written.{then, short}
+use Rattle.text.specs.Written.{field_of}
+use borrow.Author.Rules.{rules}
+use Rattle.text.proofs.put_application.Goals as goal
+
+pub returns : goal.returns
+unfolding field_of text
+returns c =
+    short (then (then c.put_front-first.ensures.1 c.put_field-second.ensures.1) c.put.ensures)
+    (omega (arith, c.put_front-first.ensures.0, c.put_field-second.ensures.0, c.put.ensures.behind))

@@ -1,0 +1,16 @@
+-- One arm for each answer.
+use borrow.Author.Rules.{rules}
+use Rattle.trials.specs.Coded.{label_size}
+use Rattle.trials.proofs.label_size.Goals as goal
+
+pub returns-in-Refused : goal.returns-in-Refused
+unfolding label_size
+returns-in-Refused c = simp c.in-Refused.is
+
+pub returns-in-Named : goal.returns-in-Named
+unfolding label_size
+returns-in-Named c = simp c.in-Named.is
+
+pub returns-in-Fallback : goal.returns-in-Fallback
+unfolding label_size
+returns-in-Fallback c = simp c.in-Fallback.is

@@ -1,0 +1,14 @@
+use native.Mathlib.Omega.{arith}
+use mathlib.Core.Path.{refl}
+use borrow.Author.{Rules.rules, Tests.not-false}
+use Rattle.rules.specs.Tables.{vcm}
+use Rattle.fields.specs.Place.{Reaches}
+use Rattle.fields.proofs.Walks.{begin}
+use Rattle.vcm.proofs.Onward.{onward}
+use Rattle.vcm.proofs.skim.Given as goal
+
+abbrev pub invariant-loop-left : goal.invariant-loop-left
+invariant-loop-left l = Reaches (vcm l.o.included) l.b l.o.at l.o.first l.o.count l.at l.o.first l.left
+
+abbrev pub decreases-loop-left : goal.decreases-loop-left
+decreases-loop-left l = l.left
