@@ -20,7 +20,9 @@ import re
 
 WORD = re.compile(r'"(?:[^"\\]|\\.)*"|--[^\n]*|[^\s(){};,"]+|[(){};,]')
 NUMBER = re.compile(r"0x[0-9A-Fa-f]+|[0-9]+")
-NAME = re.compile(r"[^\W\d][\w·'-]*")
+NAME = re.compile(r"[^\W\d][\w'-]*")
+# fields of a name, as in h.live.last, or of what stands in brackets in front; a module's name begins with a capital
+FIELDS = re.compile(r"(?:[^\W\dA-Z][\w'-]*)?(?:\.[^\W\dA-Z][\w'-]*)+")
 DECLARED = re.compile(r"^ *(?:unfoldable|abbrev) pub (?!use )(?P<name>\S+)|^ *pub (?P<kind>record|data) (?P<type>\S+)")
 # the files whose relations ask for something; the other records only name types
 RELATIONS = ("Parts", "Growth")
@@ -35,14 +37,10 @@ NEIGHBOURS = {
 # a table for its neighbour, where the records of a table are spoken of, can be of another type
 TABLES = ("Cds", "Mms", "Vcm", "Dcm", "Ntt")
 # what a change may name; a name that the file has already may be brought in again
-IMPORTS = (
-    "use Prim.Native.Nat.{_+_, _-_, _*_, _/_, _%_, _^_}\n"
-    "use mathlib.Core.Bool.{true, false}\n"
-    "use lib.Dec.{leb, ltb}\n"
-)
+IMPORTS = "use Rattle.std.specs.Prelude.{◌+◌, ◌-◌, ◌*◌, ◌/◌, ◌%◌, ◌^◌, true, false, leb, ltb}\n"
 NEIGHBOUR_IMPORTS = (
-    "use Rattle·rules·specs.specs.declared.Table.the-variants.{Cds, Mms, Vcm, Dcm, Ntt}\n"
-    "use Rattle·rules·specs.specs.declared.Answer.the-variants.{OtherMap, Repeat, Stored, Live}\n"
+    "use Rattle.rules.specs.declared.Table.TheVariants.{Cds, Mms, Vcm, Dcm, Ntt}\n"
+    "use Rattle.rules.specs.declared.Answer.TheVariants.{OtherMap, Repeat, Stored, Live}\n"
 )
 
 
@@ -68,7 +66,15 @@ class Change:
 
 
 def tokens_of(text):
-    return [Token(m[0], m.start(), m.end()) for m in WORD.finditer(text) if not m[0].startswith("--")]
+    """The words, each projection of one for itself: of h.live.last are h, .live and .last."""
+    tokens = []
+    for word in WORD.finditer(text):
+        if FIELDS.fullmatch(word[0]):
+            parts = re.finditer(r"\.?[^.]+", word[0])
+            tokens += [Token(part[0], word.start() + part.start(), word.start() + part.end()) for part in parts]
+        elif not word[0].startswith("--"):
+            tokens.append(Token(word[0], word.start(), word.end()))
+    return tokens
 
 
 def structs_of(crate):
@@ -95,16 +101,21 @@ def neighbour_fields(structs, field):
 
 
 def atom_end(tokens, at):
-    """The index behind the argument that begins at a token: a group, or one word with its projections left out."""
-    if tokens[at].text not in ("(", "{"):
-        return at + 1
-    depth = 0
-    for i in range(at, len(tokens)):
-        depth += tokens[i].text in ("(", "{")
-        depth -= tokens[i].text in (")", "}")
+    """The index behind the argument that begins at a token: a group or one word, with its projections."""
+    end, depth = at, 0
+    while True:
+        depth += tokens[end].text in ("(", "{")
+        depth -= tokens[end].text in (")", "}")
+        end += 1
         if depth == 0:
-            return i + 1
-    raise ValueError("a group without an end")
+            break
+    while end < len(tokens) and is_projection(tokens, end):
+        end += 1
+    return end
+
+
+def is_projection(tokens, at):
+    return tokens[at].text.startswith(".") and tokens[at].start == tokens[at - 1].end
 
 
 def operand(tokens, at, step):

@@ -68,7 +68,7 @@ def document(found, outcomes, reasons):
 
 
 def log_of(root):
-    return root / "target" / "rules-tried.txt"
+    return root / "out" / "rules-tried.txt"
 
 
 def begin(root):
@@ -85,7 +85,7 @@ def write_down(root, outcomes):
 def settled(root, found):
     """The changes that the log has as refused, or as no rule, with what it says."""
     if not log_of(root).is_file():
-        sys.exit("tests/rules/try: target/rules-tried.txt is not there: nothing was tried yet")
+        sys.exit("tests/rules/try: out/rules-tried.txt is not there: nothing was tried yet")
     known = {}
     for line in log_of(root).read_text(encoding="utf-8").splitlines():
         word, by, kind, key = line.split(" | ", 3)

@@ -15,16 +15,16 @@ import tempfile
 import changes
 
 ERROR = re.compile(r"^(\S+):(\d+):\d+: error: (.*)$")
-IMPORTED = re.compile(r"\buse Rattle·(?:rules|examples)(?:·specs|·proofs)?\.(specs|proofs)\.(?!declared)(\w+)")
-FOLLOWS = re.compile(r"`[^`]+`: `[^`]+` (?:was not admitted|cannot be unfolded because it was not admitted)")
+IMPORTED = re.compile(r"\buse Rattle\.(?:rules|examples)\.(specs|proofs)\.(?!declared)(\w+)")
+FOLLOWS = re.compile(r"\d+ declarations? that depends? on `[^`]+`, which was (?:rejected|not admitted)")
 SECONDS = 300
 # the parts of a file that compute with a whole store, which takes most of its time; HoldingClauses/quick is the file without them
 STORED = {
     "HoldingClauses": (
-        "one", "one-first", "two-tables", "stores", "stores-names", "two-languages", "two-languages-state", "stores-answer", "stores-state", "touched",
-        "at-once",
+        "one", "one_first", "two_tables", "stores", "stores_names", "two_languages", "two_languages_state", "stores_answer", "stores_state", "touched",
+        "at_once",
     ),
-    "LabelledBoxes": ("named", "not-tuned", "bytes", "not-live", "not-there", "sixteen", "tunes-same"),
+    "LabelledBoxes": ("named", "not_tuned", "bytes", "not_live", "not_there", "sixteen", "tunes_same"),
 }
 
 
@@ -72,9 +72,7 @@ class Tree:
 
 def renamed(text, copy):
     """The text with the rules' modules taken from a copy; the declared types are shared."""
-    text = re.sub(r"Rattle·rules\.(specs|proofs)\.", r"Rattle·rules·\1.\1.", text)
-    text = text.replace("Rattle·examples·proofs.proofs.", "Rattle·rules·proofs.proofs.")
-    return re.sub(r"(Rattle·rules·(?:specs\.specs|proofs\.proofs))\.(?!declared)", rf"\1.{copy}.", text)
+    return re.sub(r"\bRattle\.(?:rules|examples)\.(specs|proofs)\.(?!declared)", rf"Rattle.rules.\1.{copy}.", text)
 
 
 def write_copy(tree, where, copy, change, facts):
@@ -99,12 +97,13 @@ def part_at(where, file, line):
 
 
 def outcome_of(where, copy, output):
+    """What the prover said of a copy, by its lines; it names files as they stand below the crate."""
     refused = None
     for line in output.splitlines():
         error = ERROR.match(line)
         if not error:
             continue
-        file = os.path.relpath(error[1], where)
+        file = os.path.normpath(error[1])
         if file.startswith(f"specs/{copy}/") or file == f"specs/{copy}.antt":
             return Outcome("no-rule")
         if file.startswith(f"proofs/{copy}/") and not FOLLOWS.match(error[3]) and refused is None:
@@ -115,8 +114,9 @@ def outcome_of(where, copy, output):
 def try_batch(tree, batch, facts):
     """The outcome of each change of a batch under these files of facts."""
     with tempfile.TemporaryDirectory() as room:
-        where = pathlib.Path(room) / "rules"
+        where = pathlib.Path(room) / "crates" / "rules"
         shutil.copytree(tree.crate / "src", where / "src")
+        (pathlib.Path(room) / "crates.txt").write_text("rules:\n", encoding="utf-8")
         names = [f"M{i}" for i in range(len(batch))]
         for name, change in zip(names, batch):
             write_copy(tree, where, name, change, facts)
@@ -124,7 +124,7 @@ def try_batch(tree, batch, facts):
             (where / part / "Lib.antt").write_text("".join(f"pub mod {name}\n" for name in names), encoding="utf-8")
         try:
             done = subprocess.run(
-                ["rt", "check", str(where)], stdout=subprocess.PIPE, stderr=subprocess.STDOUT, text=True, timeout=SECONDS, check=False
+                ["rt", "check"], cwd=where, stdout=subprocess.PIPE, stderr=subprocess.STDOUT, text=True, timeout=SECONDS, check=False
             )
         except subprocess.TimeoutExpired:
             return one_by_one(tree, batch, facts, Outcome("no-answer", f"none in {SECONDS} seconds"))
