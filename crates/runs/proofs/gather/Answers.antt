@@ -14,7 +14,7 @@ feed-fed-requires c = roomy _ _ _ c.begin.ensures (search rules)
 pub finish-requires : goal.finish-requires
 unfolding feed_all english text
 finish-requires c =
-    room-left _ _ _ c.begin.ensures _ c.feed-fed.ensures.grew (omega (arith, c.well-formed))
+    room-left _ _ _ c.begin.ensures _ c.feed-fed.ensures.grew (omega (arith, c.well_formed))
 
 pub returns : goal.returns
 unfolding feed_all english text
@@ -22,5 +22,5 @@ returns c =
     let p = c.args.sections.now in
     let s = c.args.store.now in
     gathered c.args.map _ _ s _ (p ∷ []) c.requires
-    (ap (intake_of c.feed-fed.result.tally c.feed-fed.new.1.0) (rest-is p c.feed-fed.result.used) ∙ c.feed-fed.ensures.used_after
+    (ap (intake_of c.feed-fed.result.tally c.feed-fed.new.store) (rest-is p c.feed-fed.result.used) ∙ c.feed-fed.ensures.used_after
     ∙ ap (λ (t : Tally). feed (intake_of t s []) p) c.begin.ensures) c.finish.ensures

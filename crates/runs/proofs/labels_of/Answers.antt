@@ -21,11 +21,12 @@ returns c =
     let g = c.gather-tally in
     let m = c.map_of in
     let p = c.print_labels.ensures in
-    let input = c.args.input.now in let both = (
-      labels-shown input m.result g.result _ m.ensures (record { pieces = _ ∷ []; is = g.ensures }) p.wrote p.wrote_2
-          ∙ ap labels (two-first input c.if-input-lt2.false),
-      p,
-    ) in record { lines_after = both.0; counts = both.1.0; counts_2 = both.1.1 }
+    let input = c.args.input.now in record {
+      lines_after = labels-shown input m.result g.result _ m.ensures (record { pieces = _ ∷ []; is = g.ensures }) p.wrote p.wrote_2
+          ∙ ap labels (two-first input c.if-input-lt2.false);
+      counts = p.counts;
+      counts_2 = p.counts_2;
+    }
 
 pub gather-tally-requires : goal.gather-tally-requires
 gather-tally-requires c = rw c.map_of.ensures c.requires
