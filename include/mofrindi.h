@@ -7,7 +7,7 @@
  * The answer is proved for every sequence of bytes there is. The function keeps no state, allocates nothing, changes none of
  * the bytes, always returns, and may be called from several threads at once.
  *
- * Link with libfirmware.a (x86-64), which `rt staticlib firmware` writes to target/staticlib/.
+ * Link with libfirmware.a (x86-64), which `rt lib`, run in crates/firmware, writes to crates/firmware/out/.
  */
 #ifndef MOFRINDI_H
 #define MOFRINDI_H

@@ -10,9 +10,10 @@ need rt "the Rattle toolchain's command rt is not on the PATH"
 need python3 "python3 is not on the PATH"
 need flock "flock (Debian's util-linux) is not on the PATH"
 
-kit=${RATTLE_HOME:-$(cd "$(dirname "$(readlink -f "$(command -v rt)")")/.." && pwd -P)}
+kit=$(cd "$(dirname "$(readlink -f "$(command -v rt)")")/.." && pwd -P)
 toolchain=$kit/on/$(uname -m)/toolchain
-[ -d "$toolchain" ] || {
+[ -d "$toolchain" ] || toolchain=$kit/toolchain
+"$toolchain/bin/clang" --version >/dev/null 2>&1 || {
     printf '%s: the Rattle toolchain in %s has no tools for %s\n' "$0" "$kit" "$(uname -m)" >&2
     exit 1
 }
@@ -71,62 +72,74 @@ rests_on() {
             print levels[name], name
         }
         { sub(/#.*/, "") }
-        split($0, line, ":") == 2 { gsub(/[ \t]/, "", line[1]); rest[line[1]] = line[2] }
+        split($0, line, ":") == 2 { split(line[1], words, " "); rest[words[1]] = line[2] }
         END { if (ENVIRON["CRATE"] in rest) visit(ENVIRON["CRATE"]) }' crates.txt | sort -s -n -k 1,1 | cut -d " " -f 2
 }
 
-# progress WHAT MARK PARENT CRATE..: for the background, as long as the process PARENT is there. Says on standard error which of the crates
-# is being proved: one for which rt has begun a file of what the prover says, target/log/CRATE.say, since the file MARK. It begins none for
-# a crate that is proved already
+# stands MADE CRATE: the file MADE is there, and nothing that it was made from has changed since
+stands() {
+    local crate part from=(crates.txt)
+    [ -e "$1" ] || return
+    while read -r crate; do
+        for part in src specs proofs; do
+            [ ! -e "crates/$crate/$part" ] || from+=("crates/$crate/$part")
+        done
+    done < <(rests_on "$2")
+    [ -z "$(find "${from[@]}" -newer "$1" -print -quit)" ]
+}
+
+# progress WHAT LOG CRATE..: what rt prints goes into the file LOG, and which of the crates it is proving on standard error: it names each
+# as it begins with it, and none that is proved already
 progress() {
-    local what=$1 mark=$2 parent=$3 told=' ' now crate place
-    shift 3
-    while read -r _ _ _ now _ <"/proc/$BASHPID/stat" && [ "$now" = "$parent" ]; do
+    local what=$1 log=$2 told='' line crate place
+    shift 2
+    while IFS= read -r line; do
+        printf '%s\n' "$line" >&3
+        [[ $line =~ ^rt:\ chose\ --jobs\ [0-9]+\ for\ ([a-z0-9_]+)$ ]] || continue
         place=0
         for crate in "$@"; do
             place=$((place + 1))
-            if [[ $told != *" $crate "* && target/log/$crate.say -nt $mark ]]; then
-                [ "$told" != ' ' ] || printf '%s: proving and building %s, some minutes the first time\n' "$0" "$what" >&2
-                printf '%s: proving %d of %d: %s\n' "$0" "$place" $# "$crate" >&2
-                told+="$crate "
-            fi
+            [ "$crate" = "${BASH_REMATCH[1]}" ] || continue
+            [ -n "$told" ] || printf '%s: proving and building %s, some minutes the first time\n' "$0" "$what" >&2
+            [[ " $told " == *" $crate "* ]] || printf '%s: proving %d of %d: %s\n' "$0" "$place" $# "$crate" >&2
+            told+=" $crate"
         done
-        sleep 1 >/dev/null 2>&1
-    done
+    done 3>"$log"
 }
 
-# proving WHAT CRATE COMMAND..: runs a command of the toolchain that proves a crate and what it rests on, one at a time where several
-# scripts do, and says how far it is; where it fails its last lines, and one that says what failed
+# proving WHAT CRATE FOLDER COMMAND..: runs a command of the toolchain that proves a crate and what it rests on, one at a time where
+# several scripts do, and says how far it is; where it fails its last lines, and one that says what failed
 proving() {
-    local what=$1 crates parent=$BASHPID mark=target/c/began.$BASHPID teller log status=0
+    local what=$1 folder=$3 crates log=target/c/said.$BASHPID status=0
     mapfile -t crates < <(rests_on "$2")
-    shift 2
-    { mkdir -p target/c && : >"$mark"; } 2>/dev/null || {
+    shift 3
+    { mkdir -p target/c && : >"$log"; } 2>/dev/null || {
         printf '%s: target/ cannot be written here\n' "$0" >&2
         exit 1
     }
     (
-        trap 'rm -f "$mark"' EXIT
-        progress "$what" "$mark" "$parent" "${crates[@]}"
-    ) &
-    teller=$!
-    log=$(flock target/c/proving "$@" 2>&1 </dev/null) || status=$?
-    kill "$teller" || true
-    wait "$teller" 2>/dev/null || true
+        set -o pipefail
+        exec 4>target/c/proving
+        flock 4
+        (cd "$folder" && "$@" 2>&1 </dev/null 4>&-) | progress "$what" "$log" "${crates[@]}"
+    ) || status=$?
+    [ "$status" -eq 0 ] || grep -v -e '^statements ' -e '^logic ' -e '^crate ' "$log" | tail -n 5 >&2
+    rm -f "$log"
     [ "$status" -eq 0 ] || {
-        printf '%s\n' "$log" | tail -n 5 >&2
-        printf '%s: %s failed\n' "$0" "$*" >&2
+        printf '%s: %s in %s failed\n' "$0" "$*" "$folder" >&2
         exit 1
     }
 }
 
-# archive CRATE: proves what is not proved yet and writes target/staticlib/libCRATE.a
+# archive CRATE: proves what is not proved yet and writes crates/CRATE/out/libCRATE.a
 archive() {
-    proving "the archive of $1" "$1" rt staticlib "$1"
+    stands "crates/$1/out/lib$1.a" "$1" || proving "the archive of $1" "$1" "crates/$1" rt lib
 }
 
-# program CRATE: proves what is not proved yet and writes target/bin/CRATE, and target/c/CRATE, a command that runs it
+# program CRATE: proves what is not proved yet and writes crates/CRATE/out/CRATE, and target/c/CRATE, a command that runs it. (rt runs a program
+# that it has built; here on no input)
 program() {
-    proving "$1" "$1" rt check "$1"
-    command_x86 "target/c/$1" "target/bin/$1"
+    stands "crates/$1/out/$1" "$1" || proving "$1" "$1" "crates/$1" rt run
+    mkdir -p target/c
+    command_x86 "target/c/$1" "crates/$1/out/$1"
 }

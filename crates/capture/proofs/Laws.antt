@@ -8,7 +8,6 @@ use lib.{IntN.ℤ, IntN.pos, IntN.negsuc, ListN.length, ListN.take, ListN.drop, 
 use lib.Seq.{length-take-le, take_at, drop_at, drop-drop, take-append-le}
 use borrow.Author.Tests.{eq-eqb, ne_eqb}
 use borrow.Rule.Slice.PartMut.{mid_of, put_mid, mid_len}
-use Rattle.io.specs.Counts.{clamp_len}
 use Rattle.rules.specs.{Bytes.from, Holding.put, Lineup.english, Lineup.fresh_box}
 use Rattle.rules.specs.Feeding.{Intake, unfinished, begin, feed, feed_all, finish}
 use Rattle.stream.specs.{declared.Tally.Tally, declared.Absorbed.Absorbed, Tallied.intake_of, Tallied.begun, Tallied.Grew}
@@ -16,7 +15,7 @@ use Rattle.stream.specs.Tallied as tallied
 use Rattle.capture.specs.declared.Got.{Got}
 use Rattle.capture.specs.declared.Followed.{Followed}
 use Rattle.capture.specs.declared.Gathered.{Gathered}
-use Rattle.capture.specs.Read.{Given, got_by, to_end, Ended, followed, gathered, held_in, FollowedAs, GatheredAs}
+use Rattle.capture.specs.Read.{Given, clamp_len, got_by, to_end, Ended, followed, gathered, held_in, FollowedAs, GatheredAs}
 
 -- ---- one read
 

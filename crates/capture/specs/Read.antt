@@ -1,9 +1,6 @@
 -- What the loop makes of what its reads gave. The contract of a read says nothing of the bytes that come, so of what was given a contract here says
 -- that there is some; by it all else is decided: the answer, every byte of the store and every byte of the buffer.
-use Rattle.std.specs.Prelude.{ℕ, zero, suc}
-use mathlib.Core.{Path.◌≡◌, Bool.Bool, Bool.true, Bool.false, Bool.cond, List.List, List.[], List.◌∷◌}
-use lib.{IntN.ℤ, IntN.pos, Signed.lt_z, ListN.length, ListN.take, Dec.eqb}
-use Rattle.io.specs.Counts.{clamp_len}
+use Rattle.std.specs.Prelude.{◌≡◌, ℕ, zero, suc, min, ℤ, pos, negsuc, Bool, true, false, cond, List, [], ◌∷◌, length, take, eqb, int_lt}
 use Rattle.rules.specs.{Holding.put, Feeding.Intake, Feeding.begin, Feeding.feed, Feeding.finish}
 use Rattle.stream.specs.{declared.Tally.Tally, declared.Absorbed.Absorbed, Tallied.intake_of}
 use Rattle.capture.specs.declared.Got.{Got}
@@ -18,8 +15,13 @@ pub record Given : Type 0 where
   pub answer : ℤ
   pub part : List ℕ
 
+-- the number of bytes that an answer tells, brought into `0..=most`
+abbrev pub clamp_len : ℤ → ℕ → ℕ
+clamp_len (pos k) most = min k most
+clamp_len (negsuc k) most = 0
+
 unfoldable pub got_by : Given → Got
-got_by g = record { count = clamp_len g.answer (length g.part); failed = lt_z g.answer (pos 0) }
+got_by g = record { count = clamp_len g.answer (length g.part); failed = int_lt g.answer (pos 0) }
 
 -- the reads of a whole input: the last one, and no other, gave no bytes; or so many as are made at most, each of which gave some
 unfoldable pub to_end : (most : ℕ) → List Given → Bool

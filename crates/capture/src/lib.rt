@@ -1,4 +1,4 @@
-// A capture read from a file descriptor, piece by piece: the loop of every program that follows one. After each read the sections
+// A capture read from a reader, piece by piece: the loop of every program that follows one. After each read the sections
 // that are whole then are offered, and at the end of the input what is kept of the last. What a read that fails left unread is
 // not offered, and the answer says that one failed.
 #![tactic(auto)]
@@ -9,6 +9,7 @@ ghost use Rattle.rules.specs.Lineup.{english, fresh_box};
 ghost use Rattle.stream.specs.Tallied.{Room, Grew};
 ghost use Rattle.capture.specs.Read.{Given, got_by, FollowedAs, GatheredAs};
 
+use std::io::Read;
 use stream::{Absorbed, Tally};
 
 // Bytes of the buffer: that many a read can give at once.
@@ -19,50 +20,54 @@ pub const PIECE: usize = 65536;
 const READS: u64 = 140737488355328;
 
 // What a read gave: no bytes at the end of the input, and where it failed.
-#[derive(Drop)]
+#[derive(Clone, Copy)]
 pub struct Got {
     pub count: usize,
     pub failed: bool,
 }
 
 // What is held at the end of the input, and whether a read that failed ended it.
-#[derive(Drop)]
+#[derive(Clone, Copy)]
 pub struct Followed {
     pub held: Absorbed,
     pub failed: bool,
 }
 
 // The tally of the whole input, and whether a read that failed ended it.
-#[derive(Drop)]
+#[derive(Clone, Copy)]
 pub struct Gathered {
     pub tally: Tally,
     pub failed: bool,
 }
 
 // Reads once.
-fn read_some(fd: i32, part: &mut [u8]) -> Got
+fn read_some<R: Read>(reader: &mut R, part: &mut [u8]) -> Got
     requires { 0 < length part.old }
     ensures { (given : Given) × (result ≡ got_by given) × (part.new ≡ given.part) }
 {
-    let got = libc::read(fd, part);
-    let count = io::count(got, part);
-    Got {
-        count,
-        failed: got < 0,
-    }
+    let (count, failed) = match reader.read(part) {
+        Ok(count) => (count, false),
+        Err(_) => (0, true),
+    };
+    Got { count, failed }
 }
 
 // Reads once, behind the bytes that are kept.
-fn refill(fd: i32, buffer: &mut [u8], kept: usize) -> Got
+fn refill<R: Read>(reader: &mut R, buffer: &mut [u8], kept: usize) -> Got
     requires { kept < length buffer.old }
     ensures value { (given : Given) × (result ≡ got_by given) × (buffer.new ≡ put buffer.old kept given.part) }
     ensures count_in_bounds { kept + result.count ≤ length buffer.old }
 {
-    read_some(fd, &mut buffer[kept..])
+    read_some(reader, &mut buffer[kept..])
 }
 
 // All that can be read, up to the end of the input or a read that fails.
-pub fn follow(fd: i32, start: Tally, store: &mut [u8], buffer: &mut [u8]) -> Followed
+pub fn follow<R: Read>(
+    reader: &mut R,
+    start: Tally,
+    store: &mut [u8],
+    buffer: &mut [u8],
+) -> Followed
     requires buffer_len { length buffer.old ≡ 65536 }
     requires room { Room start 9223372036854775808 }
     ensures followed_as { (given : List Given) × FollowedAs given start store.old buffer.old result store.new buffer.new }
@@ -76,7 +81,7 @@ pub fn follow(fd: i32, start: Tally, store: &mut [u8], buffer: &mut [u8]) -> Fol
     let mut reads = READS;
     while reads > 0 {
         let tally = held.tally;
-        let got = refill(fd, buffer, held.kept);
+        let got = refill(reader, buffer, held.kept);
         if got.count == 0 {
             return Followed {
                 held,
@@ -94,13 +99,19 @@ pub fn follow(fd: i32, start: Tally, store: &mut [u8], buffer: &mut [u8]) -> Fol
 
 // What a fresh box has made of the sections of the whole input. Its language is the one that the rules' programs start with, since their texts
 // are what is printed of it; the bytes themselves stand in the programs.
-pub fn gather(fd: i32, map: u16, language: [u8; 3], store: &mut [u8], buffer: &mut [u8]) -> Gathered
+pub fn gather<R: Read>(
+    reader: &mut R,
+    map: u16,
+    language: [u8; 3],
+    store: &mut [u8],
+    buffer: &mut [u8],
+) -> Gathered
     requires buffer_len { length buffer.old ≡ 65536 }
     requires language_value { language ≡ english }
     requires store_value { store.old ≡ (fresh_box map).store }
     ensures { (given : List Given) × GatheredAs given map buffer.old result store.new buffer.new }
 {
-    let followed = follow(fd, stream::begin(map, language), store, buffer);
+    let followed = follow(reader, stream::begin(map, language), store, buffer);
     let kept = followed.held.kept;
     let tally = followed.held.tally;
     let failed = followed.failed;

@@ -9,11 +9,12 @@ ghost use Rattle.rules.specs.Lineup.{fresh_box, lineup};
 ghost use Rattle.text.specs.Written.{Counts};
 ghost use Rattle.printout.specs.Shown.{Shown};
 
-use libc::{STDERR_FILENO, STDIN_FILENO, STDOUT_FILENO};
 use printout::Printed;
+use std::io::Read;
 
 // The line-up, in the two buffers, of an input that begins with `head`; the rest of it is read.
-fn line_up(
+fn line_up<R: Read>(
+    reader: &mut R,
     head: &[u8],
     store: &mut [u8],
     buffer: &mut [u8; 65536],
@@ -32,35 +33,53 @@ fn line_up(
             lines: 0,
         };
     }
-    let gathered = capture::gather(STDIN_FILENO, stream::map_of(head), *b"eng", store, buffer);
+    let gathered = capture::gather(reader, stream::map_of(head), *b"eng", store, buffer);
     let tally = gathered.tally;
     printout::print(tally, store, heading, lines)
 }
 
+// Reads until the buffer is full, the input ends or a read fails: how many bytes there are at its front.
+fn read_full<R: Read>(reader: &mut R, buffer: &mut [u8]) -> usize
+    ensures in_bounds { result ≤ length buffer.new }
+    ensures front { result ≡ length (take result buffer.new) }
+{
+    let mut done = 0;
+    while done < buffer.len() {
+        let got = reader.read(&mut buffer[done..]).unwrap_or(0);
+        if got == 0 {
+            break;
+        }
+        done += got;
+    }
+    done
+}
+
 // Writes to standard output, and says so where that can't be done.
-fn write(text: &[u8]) -> bool {
-    if io::write_all(STDOUT_FILENO, text) {
+fn write(rt: &(impl Print + Eprint), text: &[u8]) -> bool {
+    if rt.write_all(text).is_ok() {
         return true;
     }
-    io::write_all(STDERR_FILENO, b"lineup: standard output can't be written\n");
+    let _ = rt.eprintln("lineup: standard output can't be written");
     false
 }
 
-fn main() {
+fn main(rt: HostRuntime) {
     let mut store = [0u8; receiver::STORE];
     let mut buffer = [0u8; capture::PIECE];
     let mut heading = [0u8; 256];
     let mut lines = [0u8; printout::LINES];
     let mut map = [0u8; 2];
-    let got = io::read_full(STDIN_FILENO, &mut map);
+    let mut input = rt.stdin();
+    let got = read_full(&mut input, &mut map);
     let printed = line_up(
+        &mut input,
         &map[..got],
         &mut store,
         &mut buffer,
         &mut heading,
         &mut lines,
     );
-    if write(&heading[..printed.heading]) {
-        write(&lines[..printed.lines]);
+    if write(&rt, &heading[..printed.heading]) {
+        write(&rt, &lines[..printed.lines]);
     }
 }

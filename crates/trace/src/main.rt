@@ -2,91 +2,116 @@
 // back to back, each taking 3 + L bytes; an unfinished last one is offered as it is.
 #![tactic(auto)]
 
-ghost use Rattle.std.specs.Prelude.{◌+◌, ◌≤◌, length};
+ghost use Rattle.std.specs.Prelude.{◌≡◌, ◌+◌, ◌≤◌, length, take};
 
-use libc::{STDIN_FILENO, STDOUT_FILENO};
 use rules::{Answer, State};
+use std::io::Read;
 
 // The longest section that a length of 12 bits can announce.
 const LONGEST: usize = 4098;
 
-fn write(text: &[u8]) {
-    io::write_all(STDOUT_FILENO, text);
+fn write(rt: &impl Print, text: &[u8]) {
+    let _ = rt.write_all(text);
 }
 
 // A line with a number at its end.
-fn write_number(text: &[u8], n: u8) {
-    write(text);
-    io::print_decimal(STDOUT_FILENO, n as u64);
-    write(b"\n");
+fn write_number(rt: &impl Print, text: &[u8], n: u8) {
+    write(rt, text);
+    let _ = rt.print(n);
+    write(rt, b"\n");
 }
 
-fn write_answer(a: Answer) {
+fn write_answer(rt: &impl Print, a: Answer) {
     match a {
-        Answer::Refused(n) => write_number(b"answer=refused number=", n),
-        Answer::OtherMap => write(b"answer=other-map\n"),
-        Answer::Repeat => write(b"answer=repeat\n"),
-        Answer::Stored(missing) => write_number(b"answer=stored missing=", missing),
-        Answer::Live(version) => write_number(b"answer=live version=", version),
+        Answer::Refused(n) => write_number(rt, b"answer=refused number=", n),
+        Answer::OtherMap => write(rt, b"answer=other-map\n"),
+        Answer::Repeat => write(rt, b"answer=repeat\n"),
+        Answer::Stored(missing) => write_number(rt, b"answer=stored missing=", missing),
+        Answer::Live(version) => write_number(rt, b"answer=live version=", version),
     }
 }
 
+// Reads until the buffer is full, the input ends or a read fails: how many bytes there are at its front.
+fn read_full<R: Read>(reader: &mut R, buffer: &mut [u8]) -> usize
+    ensures in_bounds { result ≤ length buffer.new }
+    ensures front { result ≡ length (take result buffer.new) }
+{
+    let mut done = 0;
+    while done < buffer.len() {
+        let got = reader.read(&mut buffer[done..]).unwrap_or(0);
+        if got == 0 {
+            break;
+        }
+        done += got;
+    }
+    done
+}
+
 // Reads n bytes to a place of the buffer, or as many as there are.
-fn read_at(buffer: &mut [u8], at: usize, n: usize) -> usize
+fn read_at<R: Read>(reader: &mut R, buffer: &mut [u8], at: usize, n: usize) -> usize
     requires { at + n ≤ length buffer.old }
     ensures { result ≤ n }
 {
-    io::read_full(STDIN_FILENO, &mut buffer[at..at + n])
+    read_full(reader, &mut buffer[at..at + n])
 }
 
 // The next section of the input, at the front of the buffer: how many bytes there are of it, 0 at the end.
-fn next_section(buffer: &mut [u8]) -> usize
+fn next_section<R: Read>(reader: &mut R, buffer: &mut [u8]) -> usize
     requires { 4098 ≤ length buffer.old }
     ensures { result ≤ length buffer.old }
 {
-    let got = read_at(buffer, 0, 3);
+    let got = read_at(reader, buffer, 0, 3);
     if got < 3 {
         return got;
     }
     let rest = fields::length_of(buffer) as usize;
-    3 + read_at(buffer, 3, rest)
+    3 + read_at(reader, buffer, 3, rest)
 }
 
 // What an offer of the first bytes of the buffer leaves; its answer is written.
-fn offer_front(state: State, store: &mut [u8], buffer: &[u8], size: usize) -> State
+fn offer_front(rt: &impl Print, state: State, store: &mut [u8], buffer: &[u8], size: usize) -> State
     requires { size ≤ length buffer.now }
 {
     let offered = receiver::offer(state, store, &buffer[..size]);
     let answer = offered.answer;
-    write_answer(answer);
+    write_answer(rt, answer);
     offered.state
 }
 
 // Offers section after section. A proved loop has to end, and nothing says that an input does: no run uses the turns up.
-fn follow(start: State, store: &mut [u8], buffer: &mut [u8])
+fn follow<R: Read>(
+    rt: &impl Print,
+    reader: &mut R,
+    start: State,
+    store: &mut [u8],
+    buffer: &mut [u8],
+)
     requires { 4098 ≤ length buffer.old }
 {
     let mut state = start;
     let mut turns = u64::MAX;
     while turns > 0 {
-        let size = next_section(buffer);
+        let size = next_section(reader, buffer);
         if size == 0 {
             return;
         }
-        state = offer_front(state, store, buffer, size);
+        state = offer_front(rt, state, store, buffer, size);
         turns -= 1;
     }
 }
 
-fn main() {
+fn main(rt: HostRuntime) {
     let mut map = [0u8; 2];
-    if io::read_full(STDIN_FILENO, &mut map) < 2 {
-        write(b"trace=refused\n");
+    let mut input = rt.stdin();
+    if read_full(&mut input, &mut map) < 2 {
+        write(&rt, b"trace=refused\n");
         return;
     }
     let mut store = [0u8; receiver::STORE];
     let mut buffer = [0u8; LONGEST];
     follow(
+        &rt,
+        &mut input,
         receiver::start(stream::map_of(&map), *b"eng"),
         &mut store,
         &mut buffer,
