@@ -51,10 +51,10 @@ gathered-once r q s z b c x y =
     let o : r ≡ q = a in
     cc
 
--- whatever the reader is
+-- for any reader
 module _ {M : Type 1} {𝓤 : Ura M} (𝓛 : Logic 𝓤) (mem : Memory → SProp 𝓤) (run : Routine → Fun 𝓤)
-    (R : RattleType) (reads : Ghosts R.Denot) (dict : Dict) where
-  pub follow-determined : DeterminedBy 𝓤 {T = follow.ended R reads dict} (follow.clauses R reads dict 𝓛 mem run)
+    (R : RattleType) (read : Ghosts R.Denot) (dict : Dict) where
+  pub follow-determined : DeterminedBy 𝓤 {T = follow.ended R read dict} (follow.clauses R read dict 𝓛 mem run)
       (λ κs r e. with_lent r (with_lent e.1.1.0.now e.1.1.1.0.now)) (List Given)
       (λ κs a g given r e. FollowedAs given a.1.0 a.1.1.0.now a.1.1.1.0.now r e.1.1.0.now e.1.1.1.0.now)
   follow-determined = (
@@ -62,7 +62,7 @@ module _ {M : Type 1} {𝓤 : Ura M} (𝓛 : Logic 𝓤) (mem : Memory → SProp
     λ κs a g given r q e f x y. followed-once r q _ _ _ _ x y,
   )
 
-  pub gather-determined : DeterminedBy 𝓤 {T = gather.ended R reads dict} (gather.clauses R reads dict 𝓛 mem run)
+  pub gather-determined : DeterminedBy 𝓤 {T = gather.ended R read dict} (gather.clauses R read dict 𝓛 mem run)
       (λ κs r e. with_lent r (with_lent e.1.1.1.0.now e.1.1.1.1.0.now)) (List Given)
       (λ κs a g given r e. GatheredAs given a.1.0 a.1.1.1.1.0.now r e.1.1.1.0.now e.1.1.1.1.0.now)
   gather-determined = (λ κs a g r e. id⊢ 𝓤 _, λ κs a g given r q e f x y. gathered-once r q _ _ _ _ x y)

@@ -1,33 +1,51 @@
--- Each read that gives bytes is a piece, fed behind what is kept; one that gives none is the end.
-use Rattle.std.proofs.Common.{refl, ◌∙◌}
-use Rattle.capture.proofs.Laws.{going, used-up, ended, going_on}
+-- Each read that gives bytes is a piece, fed behind what is kept; one that gives none is the end. The measure is the number of
+-- reads left.
+use native.Mathlib.Omega.{arith}
+use mathlib.Core.{Path.◌≡◌, Path.refl, Path.◌∙◌}
+use lib.ListN.{length}
+use borrow.Author.Rules.{rules}
+use Rattle.capture.proofs.Laws.{Going, going, used-up, ended, going_on}
 use Rattle.capture.proofs.follow.Goals as goal
 
 pub loop-reads-init : goal.loop-reads-init
-loop-reads-init g c = (refl, refl, going c.args.start c.args.store.now c.args.buffer.now)
+loop-reads-init g c =
+    let a = c.args in
+    (refl, refl, going a.start a.store.now a.buffer.now)
 
-pub returns-then-got-eq0-clause-followed_as : goal.returns-then-got-eq0-clause-followed_as
-returns-then-got-eq0-clause-followed_as g c =
+pub returns-then-got-eq0 : goal.returns-then-got-eq0
+returns-then-got-eq0 g c =
     let l = c.loop-reads.invariant in
-    let r = c.refill-got in
-    let given = r.ensures.value in
-    (ended l.2 (l.1 ∙ c.requires.buffer_len) c.loop-reads-test.true given.0 r.result given.1 _ given.2 c.if-got-eq0.true r.auto.buffer).0
+    let p = c.requires in
+    let given = c.refill-got.ensures.value in let both = ended l.2 (l.1 ∙ p.buffer_len) c.loop-reads-test.true given.0 c.refill-got.result given.1 _ given.2 c.if-got-eq0.true c.refill-got.auto.buffer in record { followed_as = both.0; grew = both.1.0; kept_bound = both.1.1 }
+
+pub absorb-held-requires : goal.absorb-held-requires
+absorb-held-requires g c =
+    let l = c.loop-reads.invariant in
+    let p = c.requires in
+    let g = l.2.grew in
+    let k = c.refill-got.auto.buffer in record {
+      room = record {
+        sections = omega (arith, g.sections, p.room.sections, c.loop-reads-test.true, l.2.few, l.1, p.buffer_len, k);
+        refused = omega (arith, g.refused, p.room.refused, c.loop-reads-test.true, l.2.few, l.1, p.buffer_len, k);
+      };
+      got_in_bounds = omega (arith, c.refill-got.ensures.count_in_bounds, k);
+    }
 
 pub loop-reads-preserved : goal.loop-reads-preserved
 loop-reads-preserved g c =
     let l = c.loop-reads.invariant in
-    let long = l.1 ∙ c.requires.buffer_len in
-    let r = c.refill-got in
-    let given = r.ensures.value in
-    let a = c.absorb-held in
-    let e = a.ensures in (
-      a.auto.store ∙ l.0,
-      a.auto.buffer ∙ r.auto.buffer ∙ l.1,
-      going_on l.2 long c.loop-reads-test.true given.0 r.result given.1 _ given.2 c.if-got-eq0.false a.result _ _ e.buffer_after e.buffer_after_2
-          e.kept_value.0 e.kept_value.1 (rw (r.auto.buffer ∙ long) at e.grew),
+    let p = c.requires in
+    let e = c.absorb-held.ensures in
+    let k = c.refill-got.auto.buffer in
+    let given = c.refill-got.ensures.value in (
+      c.absorb-held.auto.store ∙ l.0,
+      c.absorb-held.auto.buffer ∙ k ∙ l.1,
+      going_on l.2 (l.1 ∙ p.buffer_len) c.loop-reads-test.true given.0 c.refill-got.result given.1 _ given.2 c.if-got-eq0.false
+          c.absorb-held.result _ _ e.buffer_after e.buffer_after_2 e.kept_value.0 e.kept_value.1 (rw (k ∙ l.1 ∙ p.buffer_len) at e.grew),
     )
 
-pub returns-clause-followed_as : goal.returns-clause-followed_as
-returns-clause-followed_as g c =
-    let l = c.loop-reads.invariant in
-    (used-up l.2 (l.1 ∙ c.requires.buffer_len) c.loop-reads-test.false).0
+pub refill-got-requires : goal.refill-got-requires
+refill-got-requires g c = let l = c.loop-reads.invariant in omega (arith, l.2.short, l.1, c.requires.buffer_len)
+
+pub returns : goal.returns
+returns g c = let l = c.loop-reads.invariant in let both = used-up l.2 (l.1 ∙ c.requires.buffer_len) c.loop-reads-test.false in record { followed_as = both.0; grew = both.1.0; kept_bound = both.1.1 }

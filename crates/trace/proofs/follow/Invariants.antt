@@ -1,9 +1,11 @@
--- Each turn offers one section, and lent slices keep their lengths; the turns are the measure.
-use Rattle.std.proofs.Common.{◌≡◌, length}
+-- Each turn offers one section, and the lent buffer keeps its length; the turns are the measure.
+use mathlib.Core.Path.{◌≡◌}
+use lib.ListN.{length}
+use borrow.Author.Rules.{rules}
 use Rattle.trace.proofs.follow.Given as goal
 
 abbrev pub invariant-loop-turns : goal.invariant-loop-turns
-invariant-loop-turns g l = (length l.store ≡ length l.fn.store) × (length l.buffer ≡ length l.fn.buffer)
+invariant-loop-turns g l = length l.buffer ≡ length l.initial.buffer
 
 abbrev pub decreases-loop-turns : goal.decreases-loop-turns
 decreases-loop-turns g l = l.turns

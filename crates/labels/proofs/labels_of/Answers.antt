@@ -1,0 +1,38 @@
+-- Fewer than two bytes are refused; else the labels are those of the map number and the pieces behind it.
+use native.Mathlib.Omega.{arith}
+use mathlib.Core.Path.{refl}
+use borrow.Author.Rules.{rules}
+use Rattle.capture.proofs.Laws.{some-pieces}
+use Rattle.rules.specs.{Lineup.text, Lineup.english, LabelLines.labels}
+use Rattle.printout.proofs.Shown.{labels-shown, labels-refused-shown, refused-alone, with_rest}
+use Rattle.labels.proofs.labels_of.Goals as goal
+
+pub returns-then-head-lt2 : goal.returns-then-head-lt2
+unfolding english text
+returns-then-head-lt2 g c =
+    let r = c.labels_refused.ensures in
+    let head = c.args.head.now in record {
+      shown = refused-alone labels _ _ head (labels-refused-shown head refl c.if-head-lt2.true r.wrote);
+      counts = r.counts;
+      counts_2 = (omega arith, refl);
+    }
+
+pub gather-gathered-requires : goal.gather-gathered-requires
+unfolding english text
+gather-gathered-requires g c = record {
+  buffer_len = search rules;
+  language_value = refl;
+  store_value = rw c.map_of.ensures c.requires.store_value;
+}
+
+pub returns : goal.returns
+unfolding english text
+returns g c =
+    let p = c.print_labels.ensures in
+    let head = c.args.head.now in
+    let got = some-pieces c.gather-gathered.ensures.1 in
+    let all = labels-shown head c.map_of.result c.gather-gathered.result.tally _ c.map_of.ensures got p.wrote p.wrote_2 in record {
+      shown = with_rest labels _ _ head _ c.if-head-lt2.false c.requires.head_len_bound all;
+      counts = p.counts;
+      counts_2 = p.counts_2;
+    }
