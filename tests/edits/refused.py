@@ -8,7 +8,8 @@ An edit of crates/NAME/must-fail holds one or more wrong answers, each under a l
 and followed by its replacements. rt ci asks that the prover refuses the edited crate as a whole, and says what it refused first. Here WHERE says
 what must have refused this answer: of code a function (or several), whose own proof must have a part that is no longer a proof; of the rules
 a theorem, or a part of one as THEOREM.PART. A declaration that was refused only because it rests on one that was refused doesn't
-count, and nor does one that names something which isn't there. Of one edit no two answers name the same place.
+count, and nor does one that names something which isn't there (names.txt beside this file says which names of a proof a wrong answer changes). Of one
+edit no two answers name the same place.
 
 It also holds docs/PROMISES.md to the tree: every label is named there, one of code under a function of its crate, and how many there are;
 and every public function, those of public modules too, has its own paragraph there, two wrong answers that it refuses itself, and its theorem
@@ -34,6 +35,7 @@ ROW = re.compile(r"(\w+)( staticlib)?\s*:(.*)")
 ERROR = re.compile(r"^(?:\./)?(\S+?):(\d+):\d+: error: `([^`]+)`: (.*)$")
 FOLLOWS = re.compile(r"`[^`]+` (?:was not admitted|cannot be unfolded because it was not admitted)|.*(?:is not in scope|has no field|has no `)")
 PUBLIC = re.compile(r'^pub (?:extern "C" )?fn (\w+)', re.MULTILINE)
+NAMED = re.compile(r"(\w+/\w+) (\S+): (.+)")
 MODULE = re.compile(r"^pub mod (\w+);", re.MULTILINE)
 PARTS = ("src", "specs", "proofs")
 AT_ONCE = 2
@@ -78,6 +80,31 @@ def wrong_answers(edit, crate):
     if len(places) != len(set(places)):
         fail(f"{edit}: two wrong answers name the same place")
     return answers, texts
+
+
+def renamings():
+    """What names.txt says: for a wrong answer, CRATE/LABEL, and a function the old names and the new."""
+    found = {}
+    for line in (pathlib.Path(__file__).resolve().parent / "names.txt").read_text(encoding="utf-8").splitlines():
+        if line and not line.startswith("#"):
+            named = NAMED.fullmatch(line)
+            pairs = [pair.split() for pair in named[3].split(";")] if named else []
+            if not pairs or any(len(pair) != 2 for pair in pairs) or (named[1], named[2]) in found:
+                fail(f"names.txt: not 'CRATE/LABEL FUNCTION: OLD NEW; ..', or there twice: {line}")
+            found[named[1], named[2]] = dict(pairs)
+    return found
+
+
+def with_names(names, function, crate):
+    """The texts of a function's proof files under the new names."""
+    old = re.compile(rf"(?<!\w)(?:{'|'.join(map(re.escape, names))})(?!\w)")
+    texts = {}
+    for file in ("Answers", "Invariants"):
+        path = f"proofs/{function.replace('::', '/')}/{file}.antt"
+        if (crate / path).is_file():
+            lines = (crate / path).read_text(encoding="utf-8").splitlines(keepends=True)
+            texts[path] = "".join(line if line.startswith("use ") else old.sub(lambda it: names[it[0]], line) for line in lines)
+    return texts
 
 
 class Tree:
@@ -146,7 +173,7 @@ def linked(one, other):
 def said_of(tree, crate, edit, texts, sum):
     """What the prover says to the crate with these texts in the place of its own, where that is kept, and whether it refuses something."""
     log = tree.root / "target" / "edits" / crate / f"{edit.stem}.log"
-    first = hashlib.sha256(f"{sum}\n{edit.read_text(encoding='utf-8')}".encode()).hexdigest()
+    first = hashlib.sha256(repr((sum, sorted(texts.items()))).encode()).hexdigest()
     if log.is_file():
         kept, _, said = log.read_text(encoding="utf-8").partition("\n")
         if kept == first:
@@ -208,7 +235,17 @@ def each_refused(tree, edits):
     for name in {below for crate in sums for below in tree.below(crate)}:
         if not tree.library(name).is_dir():
             fail(f"{tree.library(name)} is not there (run rt all check first)")
-    tried = [(edit, edit.parts[-3], *wrong_answers(edit, tree.folder(edit.parts[-3]))) for edit in edits]
+    names, tried = renamings(), []
+    for edit in edits:
+        crate = edit.parts[-3]
+        answers, texts = wrong_answers(edit, tree.folder(crate))
+        for label, places in answers:
+            for place in places:
+                renamed = names.pop((f"{crate}/{label}", place), None)
+                if renamed:
+                    texts |= with_names(renamed, place, tree.folder(crate))
+        tried.append((edit, crate, answers, texts))
+    faults += [f"names.txt: {label} is no wrong answer of {place}" for label, place in names if label.partition("/")[0] in sums]
     with concurrent.futures.ThreadPoolExecutor(AT_ONCE) as pool:
         running = [pool.submit(said_of, tree, crate, edit, texts, sums[crate]) for edit, crate, _, texts in tried]
         for (edit, crate, answers, texts), ran in zip(tried, running):
