@@ -1,10 +1,8 @@
 -- Each read that gives bytes is a piece, fed behind what is kept; one that gives none is the end. The measure is the number of
 -- reads left.
 use native.Mathlib.Omega.{arith}
-use mathlib.Core.{Path.◌≡◌, Path.refl, Path.◌∙◌}
-use lib.ListN.{length}
-use borrow.Author.Rules.{rules}
-use Rattle.capture.proofs.Laws.{Going, going, used-up, ended, going_on}
+use mathlib.Core.{Path.refl, Path.◌∙◌}
+use Rattle.capture.proofs.Laws.{going, used-up, ended, going_on}
 use Rattle.capture.proofs.follow.Goals as goal
 
 pub loop-reads-init : goal.loop-reads-init

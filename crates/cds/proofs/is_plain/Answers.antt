@@ -1,7 +1,6 @@
 -- Right, and its descriptor count is 0: the next record stands right behind it.
 use native.Mathlib.Omega.{arith}
 use mathlib.Core.Path.{refl, sym, ◌∙◌}
-use borrow.Author.Rules.{rules}
 use Rattle.rules.specs.Tables.{cds}
 use Rattle.rules.proofs.Taken.{differ}
 use Rattle.fields.proofs.Laws.{part-whole, long-enough, stands_at, counted-zero, taken_here, step_so}

@@ -1,6 +1,5 @@
 -- The checks, then the look_up; a refusal of the checks in its place beside 14.
 use mathlib.Core.Path.{sym, ◌∙◌}
-use borrow.Author.Rules.{rules}
 use Rattle.label.proofs.Laws.{refused-early, refused-high, refused-late, label-told}
 use Rattle.label.proofs.ask_label.Goals as goal
 

@@ -1,6 +1,5 @@
 -- At most two bytes of map number are read, and the store is that of a fresh box.
 use native.Mathlib.Omega.{arith}
-use borrow.Author.Rules.{rules}
 use Rattle.receiver.proofs.Laws.{fresh-store}
 use Rattle.labels.proofs.main.Goals as goal
 

@@ -2,7 +2,7 @@
 use Prim.Native.Nat.{◌/◌, ◌%◌}
 use native.Mathlib.Omega.{arith}
 use mathlib.Core.Path.{sym, ◌∙◌}
-use borrow.Author.{Rules.rules, Tests.eq-eqb, Tests.le-leb, Tests.leb-true}
+use borrow.Author.{Tests.eq-eqb, Tests.le-leb, Tests.leb-true}
 use Rattle.rules.specs.{Bytes.byte, Tables.mode_zeros, Tables.mode_of, Tables.assigned}
 use Rattle.rules.proofs.Taken.{differ}
 use Rattle.mms.proofs.is_assigned.Goals as goal

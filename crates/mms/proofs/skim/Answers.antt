@@ -1,10 +1,9 @@
 -- At each turn what is left of the records leaves what all of them leave, and none of them goes past index 255.
-use Prim.Native.Nat.{◌+◌, ◌≤◌}
+use Prim.Native.Nat.{◌≤◌}
 use native.Mathlib.Omega.{arith}
 use mathlib.Core.Path.{refl}
-use borrow.Author.{Rules.rules, Tests.not-false}
+use borrow.Author.{Rules.rules}
 use Rattle.rules.specs.Tables.{mms}
-use Rattle.fields.specs.Place.{Reaches}
 use Rattle.fields.proofs.Walks.{begin}
 use Rattle.mms.proofs.Onward.{onward}
 use Rattle.mms.proofs.skim.Goals as goal

@@ -1,6 +1,6 @@
 -- The flag, and then the number.
 use mathlib.Core.Path.{refl}
-use borrow.Author.{Rules.rules, Tests.eq-eqb, Tests.ne_eqb}
+use borrow.Author.{Tests.eq-eqb, Tests.ne_eqb}
 use Rattle.rules.specs.{Tables.name_of, Label.is_name}
 use Rattle.ntt.proofs.is_name.Goals as goal
 

@@ -1,10 +1,6 @@
 -- After each turn the lines of the channels below are written and counted.
-use Prim.Native.Nat.{◌-◌, ◌≤◌}
 use native.Mathlib.Omega.{arith}
 use mathlib.Core.Path.{◌≡◌, refl, ◌∙◌}
-use lib.ListN.{length}
-use borrow.Author.Rules.{rules}
-use Rattle.printout.specs.Lines.{box_of, line_of, longest, Below}
 use Rattle.printout.proofs.Laws.{below-0, room-for-one, below_more}
 use Rattle.printout.proofs.listed_lines.Goals as goal
 

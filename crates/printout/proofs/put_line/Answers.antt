@@ -1,5 +1,4 @@
 -- The line of the text that is asked for.
-use borrow.Author.Rules.{rules}
 use Rattle.printout.specs.Lines.{box_of, longest}
 use Rattle.printout.proofs.Laws.{of_label, of-line-up}
 use Rattle.printout.proofs.put_line.Goals as goal

@@ -3,7 +3,6 @@
 use Prim.Native.Nat.{◌<◌, ◌≤◌}
 use mathlib.Core.Path.{sym, ◌∙◌}
 use lib.ListN.{length}
-use borrow.Author.{Rules.rules, Tests.not-true, Tests.not-false}
 use Rattle.rules.specs.Holding.{limit_of, store_size}
 use Rattle.rules.proofs.Told.{offer-told}
 use Rattle.receiver.proofs.Laws.{admitted, short-store, not-formed, refused}

@@ -2,7 +2,6 @@
 use native.Mathlib.Omega.{arith}
 use mathlib.Core.Path.{sym, ◌∙◌}
 use lib.Seq.{length-take-le}
-use borrow.Author.Rules.{rules}
 use Rattle.rules.specs.Section.{without_crc}
 use Rattle.rules.proofs.Told.{ask-told}
 use Rattle.section.proofs.Whole.{ask-refused, read-long, ask-listed, ask-first}

@@ -3,7 +3,6 @@ use Prim.Native.Nat.{ℕ, ◌%◌}
 use native.Mathlib.Omega.{arith}
 use mathlib.Core.Path.{sym, ap, ◌∙◌}
 use lib.Seq.{length-take-le}
-use borrow.Author.Rules.{rules}
 use Rattle.rules.specs.Section.{without_crc}
 use Rattle.rules.proofs.{Right.fitting-says, Told.read_told}
 use Rattle.section.proofs.Whole.{whole-unfit, whole-other, whole-spoilt, whole-newer, whole-so, reads-no, reads-content}

@@ -2,7 +2,6 @@
 use mathlib.Core.Path.{refl}
 use Rattle.rules.specs.Holding.{not_ours}
 use Rattle.rules.specs.declared.Table.TheVariants.{Vcm, Dcm}
-use borrow.Author.Rules.{rules}
 use Rattle.state.proofs.Laws.{map-asked}
 use Rattle.state.proofs.is_for_other.Goals as goal
 

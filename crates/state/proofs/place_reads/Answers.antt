@@ -1,7 +1,6 @@
 -- What the place's section reads as, compared by its head.
 use mathlib.Core.Path.{sym, ◌∙◌}
 use Rattle.state.proofs.Reading.{place-right, place-wrong}
-use borrow.Author.Rules.{rules}
 use Rattle.state.proofs.place_reads.Goals as goal
 
 pub returns-in-Refused : goal.returns-in-Refused

@@ -1,5 +1,4 @@
 -- With nothing kept nothing is offered; else what is kept is the last section.
-use borrow.Author.Rules.{rules}
 use Rattle.stream.proofs.Laws.{nothing-kept, last-kept}
 use Rattle.stream.proofs.finish.Goals as goal
 

@@ -1,7 +1,6 @@
 -- Each table's room goes over its own.
 use Prim.Native.Nat.{ℕ}
 use mathlib.Core.{Path.◌≡◌, Path.sym, Path.subst, List.List}
-use borrow.Author.Rules.{rules}
 use Rattle.rules.specs.{Bytes.from, Layout.records, declared.Table.Table}
 use Rattle.rules.specs.declared.Table.TheVariants as table
 use Rattle.fields.specs.{Place.Stands, Outline.layout_of, declared.Skip.Skip}

@@ -1,6 +1,6 @@
 -- One arm for each part.
 use native.Mathlib.Omega.{arith}
-use borrow.Author.{Tests.ne_eqb, Rules.rules}
+use borrow.Author.{Tests.ne_eqb}
 use Rattle.trials.specs.Coded.{label_part}
 use Rattle.trials.proofs.label_part.Goals as goal
 

@@ -1,5 +1,5 @@
 -- One arm for each part.
-use borrow.Author.{Tests.ne_eqb, Rules.rules}
+use borrow.Author.{Tests.ne_eqb}
 use native.Mathlib.Omega.{arith}
 use Rattle.trials.specs.Coded.{tuned_part}
 use Rattle.trials.proofs.tuned_part.Goals as goal

@@ -2,7 +2,6 @@
 use Prim.Native.Nat.{◌<◌, ◌≤◌}
 use mathlib.Core.Path.{sym, ◌∙◌}
 use lib.ListN.{length}
-use borrow.Author.{Tests.not-true, Tests.not-false, Rules.rules}
 use Rattle.rules.specs.Holding.{limit_of, store_size}
 use Rattle.tuner.proofs.Laws.{check-1, check-2, check-15, check-16, check-none}
 use Rattle.tuner.proofs.check.Goals as goal

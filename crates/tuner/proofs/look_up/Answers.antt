@@ -1,6 +1,5 @@
 -- 14, then 17, 18, and what the channel's record is tuned to.
 use mathlib.Core.Path.{sym, ◌∙◌}
-use borrow.Author.Rules.{rules}
 use Rattle.tuner.proofs.{Laws.too-high, Laws.looked_up, Stages.not_defined, Stages.channel-missing, Stages.channel-there}
 use Rattle.tuner.proofs.look_up.Goals as goal
 

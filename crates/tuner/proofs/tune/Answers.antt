@@ -4,7 +4,6 @@ use native.Mathlib.Omega.{arith}
 use mathlib.Core.Path.{◌≡◌, refl, sym, ◌∙◌}
 use mathlib.Core.List.{List}
 use lib.ListN.{length}
-use borrow.Author.Rules.{rules}
 use Rattle.rules.specs.{declared.Table.Table, declared.State.State}
 use Rattle.rules.proofs.Told.{tune-told}
 use Rattle.search.specs.Listing.{Lists}

@@ -2,7 +2,7 @@
 use Prim.Native.Nat.{◌/◌, ◌%◌}
 use native.Mathlib.Omega.{arith}
 use mathlib.Core.Path.{sym, ◌∙◌}
-use borrow.Author.{Rules.rules, Tests.eq-eqb, Tests.le-leb}
+use borrow.Author.{Tests.eq-eqb, Tests.le-leb}
 use Rattle.rules.specs.Bytes.{byte}
 use Rattle.rules.specs.Tables.{transport_of, signal_of, channel_of, channel_zeros, standard_fair, channel_fair}
 use Rattle.rules.proofs.Taken.{differ}

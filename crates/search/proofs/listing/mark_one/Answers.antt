@@ -1,6 +1,5 @@
 -- No such number, one that has its entry, or one that gets it.
 use native.Mathlib.Omega.{arith}
-use borrow.Author.Rules.{rules}
 use Rattle.search.proofs.Marks.{skipped, set-marked}
 use Rattle.search.proofs.listing.mark_one.Goals as goal
 
