@@ -9,7 +9,7 @@ use Rattle.mms.proofs.Onward.{onward}
 use Rattle.mms.proofs.skim.Goals as goal
 
 pub loop-left-init : goal.loop-left-init
-loop-left-init c = (begin mms (λ done. omega arith) (search rules), omega (arith, c.if-o-gt256.false))
+loop-left-init c = (begin mms (λ done. omega arith) (search rules), omega arith)
 
 pub overflow_add-at : goal.overflow_add-at
 overflow_add-at c =
