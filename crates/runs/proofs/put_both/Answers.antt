@@ -1,6 +1,5 @@
 -- The two parts of a text, one behind the other, where both have room.
 use native.Mathlib.Omega.{arith}
-use borrow.Author.Rules.{rules}
 use Rattle.runs.proofs.Laws.{no_room, both-put}
 use Rattle.runs.proofs.put_both.Goals as goal
 

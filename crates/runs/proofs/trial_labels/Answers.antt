@@ -1,6 +1,5 @@
 -- The two parts of the labels, in the buffer.
 use lib.ListN.{take}
-use borrow.Author.Rules.{rules}
 use Rattle.receiver.proofs.Laws.{fresh-store}
 use Rattle.runs.proofs.Laws.{as-text}
 use Rattle.runs.proofs.trial_labels.Goals as goal
