@@ -5,10 +5,11 @@ use Rattle.printout.proofs.put_line.Goals as goal
 
 pub put_label-requires : goal.put_label-requires
 unfolding longest
-put_label-requires c = let p = c.requires in record {
-  at_in_bounds = rw c.if-labels.true at p.labels_in_bounds;
-  tuned_value = p.tuned_value;
-}
+put_label-requires c =
+    let p = c.requires in record {
+      at_in_bounds = rw c.if-labels.true at p.labels_in_bounds;
+      tuned_value = p.tuned_value;
+    }
 
 pub returns-then-labels : goal.returns-then-labels
 returns-then-labels c = of_label _ _ c.if-labels.true c.put_label.ensures

@@ -7,7 +7,8 @@ pub returns-then-channel-gt4095 : goal.returns-then-channel-gt4095
 returns-then-channel-gt4095 c = too-high _ _ _ c.requires.store_value c.if-channel-gt4095.true
 
 pub is_defined-requires : goal.is_defined-requires
-is_defined-requires c = let q = c.requires in record {
+is_defined-requires c =
+    let q = c.requires in record {
   store_value = q.store_value;
   lists = q.all_listed.ranges_listed;
 }

@@ -36,10 +36,12 @@ pub loop-at-init : goal.loop-at-init
 loop-at-init c = close-begin _ _
 
 pub overflow_add-at : goal.overflow_add-at
-overflow_add-at c = let h = here _ _ _ c.past_one-next.ensures _ c.in-At.is in omega arith
+overflow_add-at c =
+    let h = here _ _ _ c.past_one-next.ensures _ c.in-At.is in omega arith
 
 pub loop-at-smaller : goal.loop-at-smaller
-loop-at-smaller c = let h = here _ _ _ c.past_one-next.ensures _ c.in-At.is in omega arith
+loop-at-smaller c =
+    let h = here _ _ _ c.past_one-next.ensures _ c.in-At.is in omega arith
 
 pub returns : goal.returns
 returns c = c.judged.ensures ∙ ap closed_as (sym (c.loop-at.invariant ∙ close-end _ _ _ (omega arith)))

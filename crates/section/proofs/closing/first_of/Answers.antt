@@ -30,10 +30,12 @@ pub loop-at-init : goal.loop-at-init
 loop-at-init c = (search rules, refl)
 
 pub overflow_add-result : goal.overflow_add-result
-overflow_add-result c = let h = here _ _ _ c.past_one-next.ensures _ c.in-At.is in omega arith
+overflow_add-result c =
+    let h = here _ _ _ c.past_one-next.ensures _ c.in-At.is in omega arith
 
 pub loop-at-smaller : goal.loop-at-smaller
-loop-at-smaller c = let h = here _ _ _ c.past_one-next.ensures _ c.in-At.is in omega arith
+loop-at-smaller c =
+    let h = here _ _ _ c.past_one-next.ensures _ c.in-At.is in omega arith
 
 pub returns : goal.returns
 returns c = sym (c.loop-at.invariant.1 ∙ first-end _ _ _ (omega arith))
