@@ -1,4 +1,5 @@
 -- Each table's room tells its own.
+use borrow.Author.Rules.{rules}
 use Rattle.tables.proofs.outline_of.Goals as goal
 
 pub returns-in-Cds : goal.returns-in-Cds

@@ -1,4 +1,5 @@
 -- Each table's room goes over its own.
+use borrow.Author.Rules.{rules}
 use Prim.Native.Nat.{ℕ}
 use mathlib.Core.{Path.◌≡◌, Path.sym, Path.subst, List.List}
 use Rattle.rules.specs.{Bytes.from, Layout.records, declared.Table.Table}
