@@ -1,30 +1,42 @@
 #!/usr/bin/env python3
-"""Reads what the prover said to the must-fail edits, and asks that each wrong answer was refused on its own account.
+"""Tries each must-fail edit, reads what the prover says to it, and asks that each wrong answer was refused on its own account.
 
 An edit of crates/NAME/must-fail holds one or more wrong answers, each under a line
 
     wrong LABEL: WHERE: words
 
-and followed by its replacements. rt must-fail asks that the prover refuses the edited crate as a whole. Here WHERE says what
-must have refused this answer: of code a function (or several), whose own proof must have a part that is no longer a proof; of the rules
+and followed by its replacements. rt ci asks that the prover refuses the edited crate as a whole, and says what it refused first. Here WHERE says
+what must have refused this answer: of code a function (or several), whose own proof must have a part that is no longer a proof; of the rules
 a theorem, or a part of one as THEOREM.PART. A declaration that was refused only because it rests on one that was refused doesn't
 count, and nor does one that names something which isn't there. Of one edit no two answers name the same place.
 
 It also holds docs/PROMISES.md to the tree: every label is named there, one of code under a function of its crate, and how many there are;
 and every public function, those of public modules too, has its own paragraph there, two wrong answers that it refuses itself, and its theorem
-in proofs/Determined.antt, which says `Determined` of it, and `DeterminedBy` of one that reads (by which relation is for a reader to see). Run it behind rt ci or rt must-fail, in the
-repository's root.
+in proofs/Determined.antt, which says `Determined` of it, and `DeterminedBy` of one that reads (by which relation is for a reader to see).
+
+Run it behind rt all check, over whose libraries and kept work the edits are tried, in the repository's root, two at a time. What the prover said is
+kept in target/edits, and an edit is tried again once it, its crate or a crate below has changed. With names of crates it tries the edits of these alone,
+and reads no page.
 """
 import collections
+import concurrent.futures
+import hashlib
+import os
 import pathlib
 import re
+import shutil
+import subprocess
 import sys
+import tempfile
 
 WRONG = re.compile(r"wrong ([a-z0-9_]+): ([^:]+(?:::[^:]+)*): (.+)")
-ERROR = re.compile(r"^(\S+):(\d+):\d+: error: `([^`]+)`: (.*)$")
-FOLLOWS = re.compile(r"`[^`]+` (?:was not admitted|cannot be unfolded because it was not admitted)|.*is not in scope")
+ROW = re.compile(r"(\w+)( staticlib)?\s*:(.*)")
+ERROR = re.compile(r"^(?:\./)?(\S+?):(\d+):\d+: error: `([^`]+)`: (.*)$")
+FOLLOWS = re.compile(r"`[^`]+` (?:was not admitted|cannot be unfolded because it was not admitted)|.*(?:is not in scope|has no field|has no `)")
 PUBLIC = re.compile(r'^pub (?:extern "C" )?fn (\w+)', re.MULTILINE)
 MODULE = re.compile(r"^pub mod (\w+);", re.MULTILINE)
+PARTS = ("src", "specs", "proofs")
+AT_ONCE = 2
 # what they do is decided by what their reads gave, which comes from outside
 BY_READING = {("capture", "follow"), ("capture", "gather")}
 
@@ -34,9 +46,9 @@ def fail(text):
     sys.exit(1)
 
 
-def wrong_answers(edit, copy):
-    """The wrong answers of an edit: label and where each must be refused. What they write must stand in the crate that was tried."""
-    answers, pairs, file = [], 0, None
+def wrong_answers(edit, crate):
+    """The wrong answers of an edit, label and where each must be refused, and the texts of the files that it changes."""
+    answers, pairs, path, old, texts = [], 0, None, None, {}
     for line in edit.read_text(encoding="utf-8").splitlines():
         if line.startswith("wrong "):
             found = WRONG.fullmatch(line)
@@ -47,82 +59,177 @@ def wrong_answers(edit, copy):
             answers.append((found[1], [w.strip() for w in found[2].split(",")]))
             pairs = 0
         elif line.startswith("file: "):
-            file = copy / line[len("file: ") :]
+            path = line[len("file: ") :]
+        elif line.startswith("old: "):
+            old = line[len("old: ") :]
         elif line.startswith("new:"):
             if not answers:
                 fail(f"{edit}: a replacement before the first 'wrong' line")
-            if not file or not file.is_file():
+            if not path or not (crate / path).is_file():
                 fail(f"{edit}: a replacement with no file: line, or in a file that isn't there")
-            if line[len("new:") :].removeprefix(" ") not in file.read_text(encoding="utf-8"):
-                fail(f"{edit} is not what was tried: {file} has no '{line[5:]}' (run rt must-fail again)")
-            pairs += 1
+            text = texts.get(path) or (crate / path).read_text(encoding="utf-8")
+            if not old or text.count(old) != 1:
+                fail(f"{edit}: {path} does not have '{old}' once")
+            texts[path] = text.replace(old, line[len("new:") :].removeprefix(" "))
+            old, pairs = None, pairs + 1
     if not answers or not pairs:
         fail(f"{edit}: no wrong answer, or one that replaces nothing")
     places = [place for _, named in answers for place in named]
     if len(places) != len(set(places)):
         fail(f"{edit}: two wrong answers name the same place")
-    return answers
+    return answers, texts
 
 
-def refusals(log, copy):
-    """What was refused on its own account: (file below the crate, line, declaration)."""
-    found = []
-    for line in log.read_text(encoding="utf-8").splitlines():
-        error = ERROR.match(line)
-        if error and error[1].startswith(str(copy)) and not FOLLOWS.match(error[4]):
-            found.append((error[1][len(str(copy)) + 1 :], int(error[2]), error[3]))
-    return found
+class Tree:
+    """The crates of a repository, what each rests on, and the toolchain's command that checks one."""
+
+    def __init__(self, root):
+        self.root, self.rests, self.static = root, {}, set()
+        rt = shutil.which("rt") or fail("the Rattle toolchain's command rt is not on the PATH")
+        self.kit = pathlib.Path(rt).resolve().parent.parent
+        for line in (root / "crates.txt").read_text(encoding="utf-8").splitlines():
+            row = ROW.fullmatch(line.partition("#")[0].strip())
+            if row:
+                self.rests[row[1]] = row[3].split()
+                self.static |= {row[1]} if row[2] else set()
+
+    def folder(self, crate):
+        return self.root / "crates" / crate
+
+    def below(self, crate):
+        """The crates of the repository that a crate rests on, each once."""
+        found = []
+        for name in self.rests[crate]:
+            if name in self.rests:
+                found += [it for it in [*self.below(name), name] if it not in found]
+        return found
+
+    def library(self, crate):
+        return self.folder(crate) / "out" / "rlib" / f"{crate}.rlib"
+
+    def kept(self, crate):
+        return self.folder(crate) / "out" / "incremental"
+
+    def command(self, crate, kept):
+        words = [f"{self.kit}/bin/rattle", "check", "--crate-name", crate]
+        words += ["src/main.rt" if (self.folder(crate) / "src" / "main.rt").is_file() else "src/lib.rt"]
+        words += ["--extern", f"std={self.kit}/rlibs/std.rlib", "-L", f"dependency={self.kit}/rlibs"]
+        for name in self.rests[crate]:
+            words += ["--extern", f"{name}={self.library(name) if name in self.rests else f'{self.kit}/rlibs/{name}.rlib'}"]
+        for name in self.below(crate):
+            words += ["-L", f"dependency={self.library(name).parent}"]
+        words += ["--antt-project", f"{self.kit}/rattle/logic/antt-project.json", "--logic-built", f"{self.kit}/logic_built"]
+        words += ["--jobs", "1", "--links", f"{crate}=", "--incremental", str(kept)]
+        return words + ["--crate-type", "staticlib"] * (crate in self.static)
+
+    def sum(self, crate):
+        """A sum of all that a check of the crate reads."""
+        parts = hashlib.sha256((self.kit / "KIT-ID").read_bytes())
+        for name in [crate, *sorted(self.below(crate))]:
+            parts.update(repr((name, self.rests[name], name in self.static)).encode())
+            for part in PARTS:
+                for file in sorted((self.folder(name) / part).rglob("*")):
+                    parts.update(repr((str(file.relative_to(self.folder(name))), file.read_bytes() if file.is_file() else b"")).encode())
+        return parts.hexdigest()
 
 
-def refused_by_function(crate, function, found, log):
-    """A part of the function's own proof: not the theorem that gathers the parts. A function without a proof file is proved by the
-    prover's own search, which says what it doesn't close."""
+def linked(one, other):
+    """What was proved is linked where that can be: a check replaces such a file, and changes none."""
+    try:
+        if one.endswith(".oantt"):
+            return os.link(one, other)
+    except OSError:
+        pass
+    return shutil.copy2(one, other)
+
+
+def said_of(tree, crate, edit, texts, sum):
+    """What the prover says to the crate with these texts in the place of its own, where that is kept, and whether it refuses something."""
+    log = tree.root / "target" / "edits" / crate / f"{edit.stem}.log"
+    first = hashlib.sha256(f"{sum}\n{edit.read_text(encoding='utf-8')}".encode()).hexdigest()
+    if log.is_file():
+        kept, _, said = log.read_text(encoding="utf-8").partition("\n")
+        if kept == first:
+            return log, said, True
+    with tempfile.TemporaryDirectory(prefix="edit-") as room:
+        for part in PARTS:
+            if (tree.folder(crate) / part).is_dir():
+                shutil.copytree(tree.folder(crate) / part, f"{room}/{part}")
+        for path, text in texts.items():
+            pathlib.Path(room, path).write_text(text, encoding="utf-8")
+        try:
+            shutil.copytree(tree.kept(crate), f"{room}/kept", copy_function=linked)
+        except (OSError, shutil.Error):
+            # it is not there, or another command writes it: from nothing
+            shutil.rmtree(f"{room}/kept", ignore_errors=True)
+        ran = subprocess.run(
+            tree.command(crate, f"{room}/kept"), cwd=room, stdin=subprocess.DEVNULL, stdout=subprocess.PIPE, stderr=subprocess.STDOUT,
+            encoding="utf-8", errors="replace", check=False,
+        )
+    log.parent.mkdir(parents=True, exist_ok=True)
+    log.write_text(f"{first if ran.returncode == 1 else ''}\n{ran.stdout}", encoding="utf-8")
+    return log, ran.stdout, ran.returncode == 1
+
+
+def refusals(said):
+    """What was refused on its own account: (file of the crate, line, declaration)."""
+    errors = [ERROR.match(line) for line in said.splitlines()]
+    return [(it[1], int(it[2]), it[3]) for it in errors if it and not FOLLOWS.match(it[4])]
+
+
+def refused_by_function(crate, function, found, said):
+    """A part of the function's own proof: an answer to one of its goals, or a goal that has no answer and that the prover's own search does not prove."""
     path = function.replace("::", "/")
     name = path.rsplit("/", 1)[-1]
     folder = path[: len(path) - len(name)]
-    files = {f"proofs/{folder}{name}/Proof.antt", f"proofs/{folder}+{name}/Proof.antt"}
-    unclosed = f"fn {crate}::{function}: no proof: "
+    files = {f"proofs/{folder}{mark}{name}/{file}.antt" for mark in ("", "+") for file in ("Answers", "Proof")}
+    unproved = f"fn {crate}::{function}: no proof: "
     return any(file in files for file, _, _ in found) or any(
-        line.startswith(unclosed) and "`search` does not close" in line for line in log.read_text(encoding="utf-8").splitlines()
+        line.startswith(unproved) and "did not prove `" in line for line in said.splitlines()
     )
 
 
-def refused_by_theorem(theorem, found, copy):
+def refused_by_theorem(theorem, found, crate, texts):
     """The theorem itself, and of THEOREM.PART a line that begins with the part."""
     name, _, part = theorem.partition(".")
     for file, line, declaration in found:
         if declaration != name:
             continue
-        text = (copy / file).read_text(encoding="utf-8").splitlines()[line - 1]
+        text = (texts.get(file) or (crate / file).read_text(encoding="utf-8")).splitlines()[line - 1]
         if not part or re.match(rf"\s*{re.escape(part)} = ", text):
             return True
     return False
 
 
-def each_refused(root, edits):
+def each_refused(tree, edits):
     """The labels, each with its crate, and how many wrong answers each function or theorem refused."""
-    labels, refusing = [], collections.Counter()
-    for edit in edits:
-        crate = edit.parts[-3]
-        copy = root / "target" / "must-fail" / crate / edit.stem
-        log = copy / ".log"
-        if not log.is_file():
-            fail(f"{crate}/{edit.stem} was not tried: {log} is not there (run rt must-fail first)")
-        if log.stat().st_mtime < edit.stat().st_mtime:
-            fail(f"{crate}/{edit.stem} was changed since it was tried (run rt must-fail again)")
-        found = refusals(log, copy)
-        for label, places in wrong_answers(edit, copy):
-            if (crate, label) in labels:
-                fail(f"{crate}: two wrong answers are called {label}")
-            labels.append((crate, label))
-            for place in places:
-                if crate == "rules":
-                    refused = refused_by_theorem(place, found, copy)
-                else:
-                    refused = refused_by_function(crate, place, found, log)
-                if not refused:
-                    fail(f"{crate}/{label} was not refused by {place}: see {log}")
-                refusing[crate, place.rsplit("::", 1)[-1]] += 1
+    labels, refusing, faults = [], collections.Counter(), []
+    sums = {crate: tree.sum(crate) for crate in dict.fromkeys(edit.parts[-3] for edit in edits)}
+    for name in {below for crate in sums for below in tree.below(crate)}:
+        if not tree.library(name).is_dir():
+            fail(f"{tree.library(name)} is not there (run rt all check first)")
+    tried = [(edit, edit.parts[-3], *wrong_answers(edit, tree.folder(edit.parts[-3]))) for edit in edits]
+    with concurrent.futures.ThreadPoolExecutor(AT_ONCE) as pool:
+        running = [pool.submit(said_of, tree, crate, edit, texts, sums[crate]) for edit, crate, _, texts in tried]
+        for (edit, crate, answers, texts), ran in zip(tried, running):
+            log, said, verdict = ran.result()
+            if not verdict:
+                faults.append(f"{crate}/{edit.stem}: the prover refused nothing, or gave no verdict: see {log}")
+            found = refusals(said)
+            for label, places in answers:
+                if (crate, label) in labels:
+                    faults.append(f"{crate}: two wrong answers are called {label}")
+                labels.append((crate, label))
+                for place in places:
+                    if crate == "rules":
+                        refused = refused_by_theorem(place, found, tree.folder(crate), texts)
+                    else:
+                        refused = refused_by_function(crate, place, found, said)
+                    if not refused and verdict:
+                        faults.append(f"{crate}/{label} was not refused by {place}: see {log}")
+                    refusing[crate, place.rsplit("::", 1)[-1]] += refused
+    if faults:
+        fail("\ntests/edits: ".join(faults))
     return labels, refusing
 
 
@@ -151,7 +258,8 @@ def promised(root, labels, refusing, edits):
         theorems = source.parent.parent / "proofs" / "Determined.antt"
         for function in public_functions(source):
             says = "DeterminedBy" if (crate, function) in BY_READING else "Determined"
-            if not theorems.is_file() or f"pub {function}-determined : {says} " not in theorems.read_text(encoding="utf-8"):
+            named = rf"\bpub {function}[-_]determined : {says} "
+            if not theorems.is_file() or not re.search(named, theorems.read_text(encoding="utf-8")):
                 fail(f"{theorems} has no {function}-determined, or it doesn't say '{says}'")
             if not re.search(rf"^\*\*`{crate}::(?:\w+::)?{function}\(", promises, re.MULTILINE):
                 fail(f"docs/PROMISES.md has no paragraph '**`{crate}::{function}(..)`**'")
@@ -165,12 +273,15 @@ def promised(root, labels, refusing, edits):
 
 def main():
     root = pathlib.Path.cwd()
-    edits = sorted(root.glob("crates/*/must-fail/*.edit"))
+    names = sys.argv[1:]
+    edits = [it for it in sorted(root.glob("crates/*/must-fail/*.edit")) if not names or it.parts[-3] in names]
     if not edits:
-        fail("no must-fail edits here: run it in the repository's root")
-    labels, refusing = each_refused(root, edits)
-    functions = promised(root, labels, refusing, edits)
-    print(f"tests/edits: {len(labels)} wrong answers in {len(edits)} edits, each refused where it should be; {functions} functions determined")
+        fail("no must-fail edits here: run it in the repository's root, with names of crates that have some, or with none")
+    labels, refusing = each_refused(Tree(root), edits)
+    said = f"{len(labels)} wrong answers in {len(edits)} edits, each refused where it should be"
+    if not names:
+        said += f"; {promised(root, labels, refusing, edits)} functions determined"
+    print(f"tests/edits: {said}")
 
 
 main()
