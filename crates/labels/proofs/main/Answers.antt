@@ -6,6 +6,6 @@ use Rattle.labels.proofs.main.Goals as goal
 pub labels_of-printed-requires : goal.labels_of-printed-requires
 labels_of-printed-requires c =
     let r = c.read_full-got.ensures in record {
-  head_len_bound = omega (arith, r.in_bounds, r.front);
-  store_value = fresh-store _;
-}
+      head_len_bound = omega (arith, r.in_bounds, r.front);
+      store_value = fresh-store _;
+    }

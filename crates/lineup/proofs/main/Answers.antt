@@ -6,6 +6,6 @@ use Rattle.lineup.proofs.main.Goals as goal
 pub line_up-printed-requires : goal.line_up-printed-requires
 line_up-printed-requires c =
     let r = c.read_full-got.ensures in record {
-  head_len_bound = omega (arith, r.in_bounds, r.front);
-  store_value = fresh-store _;
-}
+      head_len_bound = omega (arith, r.in_bounds, r.front);
+      store_value = fresh-store _;
+    }

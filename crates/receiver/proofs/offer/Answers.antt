@@ -53,7 +53,7 @@ returns-in-Refused c =
 pub returns-in-Right : goal.returns-in-Right
 returns-in-Right c =
     let h = c.hold.ensures in record {
-  value = h.value;
-  store_after = h.store_after;
-  answer_value = offer-told _ _ _ h.value;
-}
+      value = h.value;
+      store_after = h.store_after;
+      answer_value = offer-told _ _ _ h.value;
+    }

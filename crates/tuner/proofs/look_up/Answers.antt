@@ -9,9 +9,9 @@ returns-then-channel-gt4095 c = too-high _ _ _ c.requires.store_value c.if-chann
 pub is_defined-requires : goal.is_defined-requires
 is_defined-requires c =
     let q = c.requires in record {
-  store_value = q.store_value;
-  lists = q.all_listed.ranges_listed;
-}
+      store_value = q.store_value;
+      lists = q.all_listed.ranges_listed;
+    }
 
 pub find_channel-found-requires : goal.find_channel-found-requires
 find_channel-found-requires c =
