@@ -15,7 +15,6 @@ use Rattle.rules.specs.declared.Mode.{Mode}
 use Rattle.rules.specs.declared.State.{State}
 use Rattle.rules.specs.declared.Answer.TheVariants as Answer
 use Rattle.rules.specs.declared.Tuned.{Tuned}
-use Rattle.rules.specs.declared.Tuned.TheVariants as Tuned
 use Rattle.rules.proofs.Hex.{hex}
 use Rattle.rules.proofs.Computed.{computed}
 use Rattle.examples.proofs.Sweeps.{as_number, sweep, swept}

@@ -19,7 +19,6 @@ use Rattle.rules.specs.declared.Channel.{Channel}
 use Rattle.rules.specs.declared.Range.{Range}
 use Rattle.rules.specs.declared.State.{State}
 use Rattle.rules.specs.declared.Tuned.{Tuned}
-use Rattle.rules.specs.declared.Tuned.TheVariants as Tuned
 use Rattle.rules.proofs.Hex.{hex}
 use Rattle.examples.proofs.Sweeps.{swept, answered, counting, as_number}
 use Rattle.rules.proofs.Computed.{computed}

@@ -12,7 +12,6 @@ use Rattle.rules.specs.{Layout.Numbered, Search.first, Standing.live_standing, d
 use Rattle.rules.specs.Label.{is_name, live_names, label_of, channel_label, names_read, wants, labelled, label_bytes}
 use Rattle.rules.specs.Said.{label_said, ask_label_said}
 use Rattle.rules.specs.declared.Table.TheVariants.{Ntt}
-use Rattle.rules.specs.declared.Labelled.TheVariants as Labelled
 use Rattle.rules.proofs.{States.table_formed, Truths.differ}
 use Rattle.search.specs.Entries.{Live}
 use Rattle.search.specs.declared.ChannelFound.TheVariants as channel

@@ -9,7 +9,6 @@ use lib.ListN.{length, get_or, replicate, length-append, length-replicate, get_o
 use borrow.Author.Tests.{leb-true, leb-false, ltb-true, ltb-false, ne_eqb}
 use Rattle.rules.specs.{Holding.Box, Tuning.tune, Label.labelled, Label.label_bytes, declared.State.State, declared.Tuned.Tuned}
 use Rattle.rules.specs.{Lineup.channel_line, Lineup.channel_lines, LabelLines.label_line, LabelLines.label_line_of}
-use Rattle.rules.specs.declared.Tuned.TheVariants as Tuned
 use Rattle.search.specs.Listing.{Blank}
 use Rattle.tuner.specs.Checks.{checks}
 use Rattle.tuner.proofs.Laws.{refused-early, refused-high, refused-late}

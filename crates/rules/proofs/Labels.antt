@@ -19,7 +19,6 @@ use Rattle.rules.specs.Labelling.{not_defined, no_record, named, fallback, Named
 use Rattle.rules.specs.Said.{OfLabel}
 use Rattle.rules.specs.declared.Table.TheVariants.{Ntt}
 use Rattle.rules.specs.{declared.Channel.Channel, declared.Range.Range, declared.State.State, declared.Labelled.Labelled}
-use Rattle.rules.specs.declared.Labelled.TheVariants as Labelled
 use Rattle.rules.proofs.Taken.{not_so, differ, both_left, both_right}
 use Rattle.rules.proofs.Tunes.{Decides, Searched, hit, missed, searched, misses, hits, range-test, channel-test}
 use Rattle.rules.proofs.{States.formed_says, States.formed_so}

@@ -15,12 +15,9 @@ use Rattle.rules.specs.Section.{given, header_of, header_by, header, in_front, s
 use Rattle.rules.specs.Section.{wrong, right, read, read_section, check_of, check, asked_of, ask}
 use Rattle.rules.specs.Gathering as Gathering
 use Rattle.rules.specs.Holding.{limit_of, store_size, holding_of, well_formed, all_of, has_other_last, is_repeat, gone_live, gathering, live_or_stored}
-use Rattle.rules.specs.Holding.{held_with, step_of, other_map, read_for, stepped, offered_as, offered, Box, answer_to, box}
+use Rattle.rules.specs.Holding.{held_with, step_of, other_map, read_for, offered_as, offered, Box, answer_to, box}
 use Rattle.rules.specs.Tuning.{Plant, plant, found, hidden, tune_signal, tune_khz, tune_carrier, tune_channel, look_up, tune}
-use Rattle.rules.specs.declared.Signal.TheVariants as Signal
 use Rattle.rules.specs.declared.Answer.TheVariants.{Refused, OtherMap, Repeat, Stored, Live}
-use Rattle.rules.specs.declared.Asked.TheVariants as Asked
-use Rattle.rules.specs.declared.Tuned.TheVariants as Tuned
 use Rattle.rules.proofs.{Asking.first-answers, Reach.needs-so}
 
 -- ---- a section: 3 to 11

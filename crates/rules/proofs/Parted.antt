@@ -12,7 +12,7 @@ use Rattle.rules.specs.Bytes.{Got, got, and_then, giving, byte, from}
 use Rattle.rules.specs.{Descriptors.Descriptor, Descriptors.closing, Descriptors.bodies, Form.Front, Form.Form, Form.form}
 use Rattle.rules.specs.{InParts.ReadFrom, InParts.PartsRight, InParts.content_in, declared.Table.Table, declared.Revision.Revision}
 use Rattle.rules.specs.Layout.{extent, taken, Numbered, records}
-use Rattle.rules.specs.Section.{header_of, Headed, header_by, header, Structure, in_front, structure, revision_tag, revision, Content, content_of, content}
+use Rattle.rules.specs.Section.{header_of, Headed, header_by, header, Structure, in_front, structure, revision_tag, Content, content_of, content}
 use Rattle.rules.specs.Parts.{Piece, Parts, encoded, area, Own, Sized, said_front, laid_out, bytes_of, Shaped, said, Fair}
 use Rattle.rules.proofs.Taken.{both_left, both_right, then-got, giving-got, taken-got, own-whole, own-got, own-so}
 use Rattle.rules.proofs.Right.{formal, header-got, header-so, made, read-from, read_back}

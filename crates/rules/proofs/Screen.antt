@@ -20,7 +20,6 @@ use Rattle.rules.specs.Sent.{SentAs, RecordSent, ChannelSent, FrequencySent, Mod
 use Rattle.rules.specs.Labelling.{NameIs, names_in, NamedBy}
 use Rattle.rules.specs.{declared.Table.Table, declared.Channel.Channel, declared.Tuned.Tuned, declared.Mode.Mode}
 use Rattle.rules.specs.declared.Table.TheVariants.{Cds, Mms, Vcm, Dcm, Ntt}
-use Rattle.rules.specs.declared.Tuned.TheVariants as Tuned
 use Rattle.rules.proofs.{States.lawful, States.all-fresh, Sent.live-sent, Answered.answered, Lowest.live-lowest, Firsts.parted, Firsts.nothing-in}
 use Rattle.rules.proofs.{Places.from-length, SentOnce.sent_once, Labels.named-is}
 

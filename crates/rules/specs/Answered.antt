@@ -17,7 +17,6 @@ use Rattle.rules.specs.declared.Signal.TheVariants as Signal
 use Rattle.rules.specs.declared.Range.{Range}
 use Rattle.rules.specs.declared.State.{State}
 use Rattle.rules.specs.declared.Tuned.{Tuned}
-use Rattle.rules.specs.declared.Tuned.TheVariants as Tuned
 
 -- ---- "the first match ends the search, for channels, carriers, modes and DCM ranges alike"
 

@@ -12,7 +12,6 @@ use Rattle.rules.specs.Form.{form}
 use Rattle.rules.specs.Section.{is_number, revision_tag, Content, right, read_section, fitting, without_crc}
 use Rattle.rules.specs.Parts.{Piece, Parts, bytes_of, Shaped}
 use Rattle.rules.specs.declared.Asked.{Asked}
-use Rattle.rules.specs.declared.Asked.TheVariants as Asked
 
 -- ---- "descriptors .. put into lists the section has"
 

@@ -16,7 +16,6 @@ use Rattle.rules.specs.declared.Channel.{Channel}
 use Rattle.rules.specs.declared.Range.{Range}
 use Rattle.rules.specs.declared.State.{State}
 use Rattle.rules.specs.declared.Labelled.{Labelled}
-use Rattle.rules.specs.declared.Labelled.TheVariants as Labelled
 
 -- "the first record with its application flag and number"
 abbrev pub NameIs : (application number : ℕ) → Numbered Name → Type 0

@@ -10,15 +10,10 @@ use Rattle.rules.specs.declared.Mode.{Mode}
 use Rattle.rules.specs.declared.SectionHead.{SectionHead}
 use Rattle.rules.specs.declared.State.{State}
 use Rattle.rules.specs.declared.Read.{Read}
-use Rattle.rules.specs.declared.Read.TheVariants as Read
 use Rattle.rules.specs.declared.Asked.{Asked}
-use Rattle.rules.specs.declared.Asked.TheVariants as Asked
 use Rattle.rules.specs.declared.Answer.{Answer}
-use Rattle.rules.specs.declared.Answer.TheVariants as Answer
 use Rattle.rules.specs.declared.Tuned.{Tuned}
-use Rattle.rules.specs.declared.Tuned.TheVariants as Tuned
 use Rattle.rules.specs.declared.Labelled.{Labelled}
-use Rattle.rules.specs.declared.Labelled.TheVariants as Labelled
 
 -- the number of the refusal, or 0 where there is none; the paper's word; and the values that go with it
 pub record Said : Type 0 where

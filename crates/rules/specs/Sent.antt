@@ -22,7 +22,6 @@ use Rattle.rules.specs.declared.Signal.TheVariants as Signal
 use Rattle.rules.specs.declared.Range.{Range}
 use Rattle.rules.specs.declared.Answer.TheVariants.{Live}
 use Rattle.rules.specs.declared.Tuned.{Tuned}
-use Rattle.rules.specs.declared.Tuned.TheVariants as Tuned
 use Rattle.rules.specs.declared.Labelled.TheVariants as Labelled
 
 -- ---- a live section was sent

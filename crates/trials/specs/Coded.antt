@@ -9,10 +9,8 @@ use Rattle.rules.specs.declared.Offered.{Offered}
 use Rattle.rules.specs.declared.Answer.{Answer}
 use Rattle.rules.specs.declared.Answer.TheVariants.{Refused, OtherMap, Repeat, Stored, Live}
 use Rattle.rules.specs.declared.Tuned.{Tuned}
-use Rattle.rules.specs.declared.Tuned.TheVariants as Tuned
 use Rattle.rules.specs.Holding.{put}
 use Rattle.rules.specs.declared.Labelled.{Labelled}
-use Rattle.rules.specs.declared.Labelled.TheVariants as Labelled
 
 -- eight bytes for a table: live present, version, last; gathered present, version, last, held; half
 unfoldable pub holding_from : List ℕ → (at : ℕ) → Holding

@@ -9,7 +9,6 @@ use borrow.Author.Tests.{le-leb, lt-leb, leb-true, ne_eqb, not-true}
 use Rattle.rules.specs.Holding.{limit_of, listed, store_size, holding_of, well_formed}
 use Rattle.rules.specs.{Search.first, declared.Table.Table, declared.State.State, declared.Tuned.Tuned}
 use Rattle.rules.specs.Tuning.{live_records, needed_tables, table_live, all_live, table_reads, all_read, plant, needs, look_up, tune}
-use Rattle.rules.specs.declared.Tuned.TheVariants as Tuned
 use Rattle.rules.proofs.{Taken.differ, States.table_formed, States.each_at, States.each-no}
 use Rattle.search.specs.Entries.{Live, records_of, test_of, entry_of, record_named}
 use Rattle.search.proofs.Named.{entry-names}

@@ -8,8 +8,6 @@ use Rattle.rules.specs.{Layout.Numbered, Tables.carrier_khz, Search.first, decla
 use Rattle.rules.specs.{declared.Signal.Signal, declared.Tuned.Tuned}
 use Rattle.rules.specs.Tuning.{Plant, is_carrier, is_mode, is_channel, defined, needs, found, hidden, tune_signal, in_reach, tune_khz, tune_carrier}
 use Rattle.rules.specs.Tuning.{tune_channel, look_up}
-use Rattle.rules.specs.declared.Signal.TheVariants as Signal
-use Rattle.rules.specs.declared.Tuned.TheVariants as Tuned
 use Rattle.search.specs.Found.{carrier_found, mode_found, channel_found}
 use Rattle.search.specs.declared.CarrierFound.TheVariants as carrier_at
 use Rattle.search.specs.declared.ModeFound.TheVariants as mode_at

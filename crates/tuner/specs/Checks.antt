@@ -5,7 +5,6 @@ use lib.{ListN.length, Dec.leb}
 use Rattle.rules.specs.{Holding.limit_of, Holding.store_size, Holding.well_formed, Tuning.all_live, Tuning.all_read, Tuning.hidden}
 use Rattle.rules.specs.{declared.Channel.Channel, declared.Tuned.Tuned, declared.State.State}
 use Rattle.rules.specs.declared.Table.TheVariants.{Cds, Mms, Vcm, Dcm}
-use Rattle.rules.specs.declared.Tuned.TheVariants as Tuned
 use Rattle.search.specs.Listing.{Lists}
 
 -- "1, 2, 14, 15, 16" without 14: the first that holds, or 0

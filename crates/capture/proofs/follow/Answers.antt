@@ -1,10 +1,8 @@
 -- Each read that gives bytes is a piece, fed behind what is kept; one that gives none is the end. The measure is the number of
 -- reads left.
 use native.Mathlib.Omega.{arith}
-use mathlib.Core.{Path.◌≡◌, Path.refl, Path.◌∙◌}
-use lib.ListN.{length}
-use borrow.Author.Rules.{rules}
-use Rattle.capture.proofs.Laws.{Going, going, used-up, ended, going_on}
+use mathlib.Core.{Path.refl, Path.◌∙◌}
+use Rattle.capture.proofs.Laws.{going, used-up, ended, going_on}
 use Rattle.capture.proofs.follow.Goals as goal
 
 pub loop-reads-init : goal.loop-reads-init
@@ -16,7 +14,9 @@ pub returns-then-got-eq0 : goal.returns-then-got-eq0
 returns-then-got-eq0 g c =
     let l = c.loop-reads.invariant in
     let p = c.requires in
-    let given = c.refill-got.ensures.value in let both = ended l.2 (l.1 ∙ p.buffer_len) c.loop-reads-test.true given.0 c.refill-got.result given.1 _ given.2 c.if-got-eq0.true c.refill-got.auto.buffer in record { followed_as = both.0; grew = both.1.0; kept_bound = both.1.1 }
+    let given = c.refill-got.ensures.value in
+    let both = ended l.2 (l.1 ∙ p.buffer_len) c.loop-reads-test.true given.0 c.refill-got.result given.1 _ given.2 c.if-got-eq0.true c.refill-got.auto.buffer in
+    record { followed_as = both.0; grew = both.1.0; kept_bound = both.1.1 }
 
 pub absorb-held-requires : goal.absorb-held-requires
 absorb-held-requires g c =
@@ -45,7 +45,11 @@ loop-reads-preserved g c =
     )
 
 pub refill-got-requires : goal.refill-got-requires
-refill-got-requires g c = let l = c.loop-reads.invariant in omega (arith, l.2.short, l.1, c.requires.buffer_len)
+refill-got-requires g c =
+    let l = c.loop-reads.invariant in omega (arith, l.2.short, l.1, c.requires.buffer_len)
 
 pub returns : goal.returns
-returns g c = let l = c.loop-reads.invariant in let both = used-up l.2 (l.1 ∙ c.requires.buffer_len) c.loop-reads-test.false in record { followed_as = both.0; grew = both.1.0; kept_bound = both.1.1 }
+returns g c =
+    let l = c.loop-reads.invariant in
+    let both = used-up l.2 (l.1 ∙ c.requires.buffer_len) c.loop-reads-test.false in
+    record { followed_as = both.0; grew = both.1.0; kept_bound = both.1.1 }

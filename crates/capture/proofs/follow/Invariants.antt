@@ -1,8 +1,6 @@
-use native.Mathlib.Omega.{arith}
-use mathlib.Core.{Path.◌≡◌, Path.refl, Path.◌∙◌}
+use mathlib.Core.{Path.◌≡◌}
 use lib.ListN.{length}
-use borrow.Author.Rules.{rules}
-use Rattle.capture.proofs.Laws.{Going, going, used-up, ended, going_on}
+use Rattle.capture.proofs.Laws.{Going}
 use Rattle.capture.proofs.follow.Given as goal
 
 abbrev pub invariant-loop-reads : goal.invariant-loop-reads

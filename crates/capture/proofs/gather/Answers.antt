@@ -1,7 +1,6 @@
 -- A fresh box follows the reads, and at the end what is kept is its last section.
 use native.Mathlib.Omega.{arith}
 use mathlib.Core.Path.{ap, ◌∙◌}
-use borrow.Author.Rules.{rules}
 use Rattle.stream.specs.Tallied.{begun}
 use Rattle.stream.proofs.Laws.{roomy, room-left}
 use Rattle.capture.proofs.Laws.{all-gathered}

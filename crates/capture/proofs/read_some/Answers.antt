@@ -1,10 +1,10 @@
 -- How many bytes there are and whether it failed are both told by the one answer of the read.
-use Rattle.std.proofs.Common.{ℕ, ◌≡◌, ◌≤◌, List, length, true, false, refl, arith, suc}
+use Rattle.std.proofs.Common.{ℕ, ◌≡◌, ◌≤◌, List, length, false, refl, arith, suc}
 use Rattle.std.proofs.Math.Nat.{min-eq_left}
 use borrow.Author.Tests.{lt-leb}
 use Rattle.std.specs.Prelude.{pos, negsuc}
 use Rattle.capture.specs.declared.Got.{Got}
-use Rattle.capture.specs.Read.{Given, got_by}
+use Rattle.capture.specs.Read.{got_by}
 use Rattle.capture.proofs.read_some.Goals as goal
 
 told : (n : ℕ) (b : List ℕ) → n ≤ length b → ◌≡◌ {A = Got} (record { count = n; failed = false }) (got_by (record { answer = pos n; part = b }))

@@ -3,7 +3,6 @@ use Prim.Native.Nat.{◌≤◌}
 use native.Mathlib.Omega.{arith}
 use mathlib.Core.Path.{ap, ◌∙◌}
 use lib.ListN.{length}
-use borrow.Author.Rules.{rules}
 use Rattle.rules.specs.Holding.{put}
 use Rattle.capture.proofs.Laws.{put_back, room}
 use Rattle.capture.proofs.refill.Goals as goal

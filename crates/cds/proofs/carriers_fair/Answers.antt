@@ -1,5 +1,5 @@
 -- Each test is a clause of the rule.
-use borrow.Author.{Tests.le-leb, Tests.lt-leb, Rules.rules}
+use borrow.Author.{Tests.le-leb, Tests.lt-leb}
 use Rattle.rules.specs.Tables.{carriers_fair}
 use Rattle.cds.proofs.carriers_fair.Goals as goal
 

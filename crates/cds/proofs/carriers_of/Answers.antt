@@ -1,5 +1,4 @@
 -- Field by field the bits that the rule names.
-use borrow.Author.Rules.{rules}
 use Rattle.rules.specs.Tables.{carriers_of}
 use Rattle.cds.proofs.carriers_of.Goals as goal
 

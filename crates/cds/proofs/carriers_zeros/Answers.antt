@@ -1,5 +1,4 @@
 -- The one bit that the rule names.
-use borrow.Author.Rules.{rules}
 use Rattle.rules.specs.Tables.{carriers_zeros}
 use Rattle.cds.proofs.carriers_zeros.Goals as goal
 

@@ -1,7 +1,6 @@
 -- Right, and its descriptor count is 0: the next record stands right behind it.
 use native.Mathlib.Omega.{arith}
 use mathlib.Core.Path.{refl, sym, ◌∙◌}
-use borrow.Author.Rules.{rules}
 use Rattle.rules.specs.Tables.{cds}
 use Rattle.rules.proofs.Taken.{differ}
 use Rattle.fields.proofs.Laws.{part-whole, long-enough, stands_at, counted-zero, taken_here, step_so}
@@ -15,7 +14,7 @@ returns-then-carriers_zeros c = λ e.
     let p = part-whole a.b.now a.at 5 in
     let fair = sym c.carriers_fair.ensures ∙ e in
     step_so cds _ _ _ (taken_here cds.block _ _ _ (omega (arith, h)) (cc) (cc)) _
-    (stands_at _ _ _ _ (counted-zero a.b.now _ _ refl (omega (arith, h)) c.if-b-at-ne0.false) (omega (arith, h)))
+    (stands_at _ _ _ _ (counted-zero a.b.now _ _ refl (omega (arith, h)) (omega arith)) (omega (arith, h)))
 
 pub returns-then-short : goal.returns-then-short
 returns-then-short c = λ e. absurd (differ (sym e))

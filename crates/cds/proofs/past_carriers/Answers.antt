@@ -2,7 +2,6 @@
 use native.Mathlib.Omega.{arith}
 use borrow.Author.Rules.{rules}
 use Rattle.rules.specs.{Bytes.byte, Tables.cds}
-use Rattle.fields.specs.Place.{Reaches}
 use Rattle.fields.proofs.Walks.{none, begin, stop, end, joined}
 use Rattle.cds.proofs.Onward.{low, onward}
 use Rattle.cds.proofs.past_carriers.Goals as goal

@@ -1,9 +1,5 @@
-use native.Mathlib.Omega.{arith}
-use borrow.Author.Rules.{rules}
-use Rattle.rules.specs.{Bytes.byte, Tables.cds}
+use Rattle.rules.specs.{Tables.cds}
 use Rattle.fields.specs.Place.{Reaches}
-use Rattle.fields.proofs.Walks.{none, begin, stop, end, joined}
-use Rattle.cds.proofs.Onward.{low, onward}
 use Rattle.cds.proofs.past_carriers.Given as goal
 
 abbrev pub invariant-loop-left : goal.invariant-loop-left

@@ -18,4 +18,5 @@ loop-preserved c =
 
 pub returns : goal.returns
 unfolding shift_all
-returns c = let l = c.loop in let e : 8 - l.counter ≡ 0 = omega arith in rw e at l.invariant.2
+returns c =
+    let l = c.loop in let e : 8 - l.counter ≡ 0 = omega arith in rw e at l.invariant.2

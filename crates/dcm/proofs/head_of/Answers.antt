@@ -1,5 +1,4 @@
 -- Field by field the bits that the rule names.
-use borrow.Author.Rules.{rules}
 use Rattle.rules.specs.Tables.{dcm_head_of}
 use Rattle.dcm.proofs.head_of.Goals as goal
 

@@ -1,7 +1,6 @@
 -- Right: the next range byte stands right behind it.
 use native.Mathlib.Omega.{arith}
 use mathlib.Core.Path.{refl, sym, ◌∙◌}
-use borrow.Author.Rules.{rules}
 use Rattle.rules.specs.Tables.{dcm}
 use Rattle.rules.proofs.Taken.{differ}
 use Rattle.fields.proofs.Laws.{part-whole, long-enough, stands_at, counted-not, taken_here, step_so}

@@ -2,7 +2,6 @@
 use native.Mathlib.Omega.{arith}
 use borrow.Author.Rules.{rules}
 use Rattle.rules.specs.{Bytes.byte, Tables.dcm}
-use Rattle.fields.specs.Place.{Reaches}
 use Rattle.fields.proofs.Walks.{none, begin, stop, end, joined}
 use Rattle.dcm.proofs.Onward.{low, onward}
 use Rattle.dcm.proofs.past_ranges.Goals as goal

@@ -1,9 +1,5 @@
-use native.Mathlib.Omega.{arith}
-use borrow.Author.Rules.{rules}
-use Rattle.rules.specs.{Bytes.byte, Tables.dcm}
+use Rattle.rules.specs.{Tables.dcm}
 use Rattle.fields.specs.Place.{Reaches}
-use Rattle.fields.proofs.Walks.{none, begin, stop, end, joined}
-use Rattle.dcm.proofs.Onward.{low, onward}
 use Rattle.dcm.proofs.past_ranges.Given as goal
 
 abbrev pub invariant-loop-left : goal.invariant-loop-left

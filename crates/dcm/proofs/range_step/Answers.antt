@@ -1,7 +1,6 @@
 -- A range byte has no zero bits and no descriptors: 8, then 10, then the next byte.
 use native.Mathlib.Omega.{arith}
 use mathlib.Core.Path.{refl}
-use borrow.Author.Rules.{rules}
 use Rattle.rules.specs.Tables.{dcm}
 use Rattle.fields.proofs.Laws.{part-whole, too_short, long-enough, stands_at, counted-not, taken-short, taken-unfair, taken_here, step-no, step_so}
 use Rattle.dcm.proofs.range_step.Goals as goal

@@ -1,10 +1,5 @@
-use native.Mathlib.Omega.{arith}
-use mathlib.Core.Path.{refl}
-use borrow.Author.{Rules.rules, Tests.not-false}
 use Rattle.rules.specs.Tables.{dcm}
 use Rattle.fields.specs.Place.{Reaches}
-use Rattle.fields.proofs.Walks.{begin}
-use Rattle.dcm.proofs.Onward.{low, onward}
 use Rattle.dcm.proofs.skim.Given as goal
 
 abbrev pub invariant-loop-left : goal.invariant-loop-left

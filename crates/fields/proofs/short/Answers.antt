@@ -10,8 +10,10 @@ use Rattle.fields.proofs.short.Goals as goal
 
 pub returns-then-b-n : goal.returns-then-b-n
 unfolding cut_short
-returns-then-b-n c = let a = c.args in sym (lt-ltb (length a.b.now) (a.at + a.n) (omega arith))
+returns-then-b-n c =
+    let a = c.args in sym (lt-ltb (length a.b.now) (a.at + a.n) (omega arith))
 
 pub returns : goal.returns
 unfolding cut_short
-returns c = let a = c.args in short-past (length a.b.now) a.at a.n (omega arith)
+returns c =
+    let a = c.args in short-past (length a.b.now) a.at a.n (omega arith)

@@ -1,6 +1,5 @@
 -- Each case of the reader's answer stands for its number.
 use mathlib.Core.Path.{sym, ◌∙◌}
-use borrow.Author.Rules.{rules}
 use Rattle.rules.specs.Section.{check}
 use Rattle.firmware.proofs.Laws.{refused-check, right-check}
 use Rattle.firmware.proofs.mofrindi_check_section.Goals as goal

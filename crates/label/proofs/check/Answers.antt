@@ -1,7 +1,6 @@
 -- The checks of tuning, and then the names.
 use mathlib.Core.Path.{sym, ◌∙◌}
 use mathlib.Core.Bool.{true, false}
-use borrow.Author.{Rules.rules, Tests.not-true, Tests.not-false}
 use Rattle.label.proofs.Laws.{check-early, check-names}
 use Rattle.label.proofs.check.Goals as goal
 

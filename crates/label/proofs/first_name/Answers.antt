@@ -1,6 +1,5 @@
 -- The first match of the live names, or the fallback.
 use mathlib.Core.Path.{sym, ap, ◌∙◌}
-use borrow.Author.Rules.{rules}
 use Rattle.rules.specs.{Label.is_name, Label.label_of, Search.first, Standing.Standing, Tables.Name}
 use mathlib.Core.List.{List}
 use Rattle.search.specs.Found.{label_named}

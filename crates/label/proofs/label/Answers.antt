@@ -1,6 +1,5 @@
 -- The part that the question answers.
 use mathlib.Core.Path.{ap, ◌∙◌}
-use borrow.Author.Rules.{rules}
 use Rattle.rules.specs.Label.{label_bytes}
 use Rattle.label.specs.Labels.{label_place}
 use Rattle.label.proofs.Laws.{brief-bytes}

@@ -3,7 +3,6 @@ use mathlib.Core.Path.{◌≡◌, refl, sym, ap, ◌∙◌}
 use mathlib.Core.Bool.{Bool}
 use mathlib.Core.List.{List}
 use Prim.Native.Nat.{ℕ}
-use borrow.Author.Rules.{rules}
 use Rattle.rules.specs.{Tuning.is_channel, Tuning.defined_by, Tuning.defined, Tuning.plant, Search.first, declared.State.State}
 use Rattle.rules.specs.declared.Table.TheVariants.{Vcm, Dcm}
 use Rattle.search.specs.{Entries.entry_of, Entries.record_named, Found.channel_found, declared.ChannelFound.ChannelFound}

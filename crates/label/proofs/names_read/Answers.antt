@@ -1,6 +1,5 @@
 -- Names that are not live have no place to read.
 use mathlib.Core.Path.{◌∙◌}
-use borrow.Author.Rules.{rules}
 use Rattle.label.proofs.Laws.{names-not-live, names-live}
 use Rattle.label.proofs.names_read.Goals as goal
 

@@ -1,6 +1,5 @@
 -- By the answer: a part of the store, or the fallback, or its empty front.
 use mathlib.Core.Path.{refl}
-use borrow.Author.Rules.{rules}
 use Rattle.rules.specs.{Bytes.from, Label.label_bytes}
 use Rattle.label.specs.Labels.{label_place}
 use Rattle.label.proofs.shown.Goals as goal

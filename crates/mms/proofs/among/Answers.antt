@@ -1,9 +1,9 @@
 -- No row in front of the place reached is x.
 use mathlib.Core.Path.{◌≡◌, refl, sym}
-use Prim.Native.Nat.{◌+◌, ◌<◌}
+use Prim.Native.Nat.{◌<◌}
 use native.Mathlib.{Numerals.add-one, Omega.arith}
-use lib.{ListN.length, ListN.drop, ListN.get_or, Seq.drop-cons, Seq.drop-length}
-use borrow.Author.{Rules.rules, Tests.eq-eqb, Tests.ne_eqb}
+use lib.{ListN.length, ListN.get_or, Seq.drop-cons, Seq.drop-length}
+use borrow.Author.{Tests.eq-eqb, Tests.ne_eqb}
 use Rattle.rules.specs.Tables.{among}
 use Rattle.mms.proofs.among.Goals as goal
 

@@ -1,8 +1,6 @@
-use mathlib.Core.Path.{◌≡◌, refl, sym}
-use Prim.Native.Nat.{◌+◌, ◌<◌}
-use native.Mathlib.{Numerals.add-one, Omega.arith}
-use lib.{ListN.length, ListN.drop, ListN.get_or, Seq.drop-cons, Seq.drop-length}
-use borrow.Author.{Rules.rules, Tests.eq-eqb, Tests.ne_eqb}
+use mathlib.Core.Path.{◌≡◌}
+use Prim.Native.Nat.{◌+◌}
+use lib.{ListN.length, ListN.drop}
 use Rattle.rules.specs.Tables.{among}
 use Rattle.mms.proofs.among.Given as goal
 

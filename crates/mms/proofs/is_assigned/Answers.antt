@@ -2,7 +2,7 @@
 use Prim.Native.Nat.{◌/◌, ◌%◌}
 use native.Mathlib.Omega.{arith}
 use mathlib.Core.Path.{sym, ◌∙◌}
-use borrow.Author.{Rules.rules, Tests.eq-eqb, Tests.le-leb, Tests.leb-true}
+use borrow.Author.{Tests.eq-eqb, Tests.le-leb, Tests.leb-true}
 use Rattle.rules.specs.{Bytes.byte, Tables.mode_zeros, Tables.mode_of, Tables.assigned}
 use Rattle.rules.proofs.Taken.{differ}
 use Rattle.mms.proofs.is_assigned.Goals as goal
@@ -15,7 +15,7 @@ returns-then-inner_assigned c = λ e.
     let low = leb-true (c.byte-format.result % 128) 24 (sym c.format_assigned.ensures ∙ e) in
     rw (
       eq-eqb (byte 1 r / 32 % 4) 0 (omega (arith, format, low)),
-      eq-eqb (byte 2 r / 16) 0 (omega (arith, c.byte-symbols.ensures, c.if-symbols-gt15.false)),
+      eq-eqb (byte 2 r / 16) 0 (omega (arith, c.byte-symbols.ensures)),
       ← c.byte-codings.ensures,
       ← c.system_assigned.ensures,
       c.if-system_assigned.true,

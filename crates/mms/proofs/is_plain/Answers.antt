@@ -2,7 +2,7 @@
 use native.Mathlib.Omega.{arith}
 use mathlib.Core.Path.{refl, sym}
 use lib.ListN.{take}
-use borrow.Author.{Rules.rules, Tests.le-leb}
+use borrow.Author.{Tests.le-leb}
 use Rattle.rules.specs.Bytes.{from}
 use Rattle.rules.specs.Tables.{mode_zeros, mode_of, assigned, mode_fair, mms}
 use Rattle.rules.proofs.Taken.{differ, both_left, both_right}

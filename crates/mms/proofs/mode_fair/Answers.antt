@@ -1,5 +1,4 @@
 -- Each test is a clause of the rule.
-use borrow.Author.Rules.{rules}
 use Rattle.rules.specs.Tables.{mode_fair, assigned}
 use Rattle.mms.proofs.mode_fair.Goals as goal
 

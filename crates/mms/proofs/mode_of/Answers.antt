@@ -1,5 +1,4 @@
 -- Field by field the bits that the rule names.
-use borrow.Author.Rules.{rules}
 use Rattle.rules.specs.Tables.{mode_of}
 use Rattle.mms.proofs.mode_of.Goals as goal
 

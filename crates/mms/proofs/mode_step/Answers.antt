@@ -1,6 +1,5 @@
 -- The tests are made in the order 8, 9, 10; then what is left is what the descriptors leave.
 use native.Mathlib.Omega.{arith}
-use borrow.Author.Rules.{rules}
 use Rattle.rules.specs.Tables.{mms}
 use Rattle.fields.proofs.Laws.{part-whole, too_short, long-enough, taken-short, taken-zeros, taken-unfair, taken_here, step-no, step_so}
 use Rattle.mms.proofs.mode_step.Goals as goal

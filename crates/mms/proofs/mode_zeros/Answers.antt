@@ -1,5 +1,5 @@
 -- Each test is a clause of the rule.
-use borrow.Author.{Tests.eq-eqb, Tests.ne_eqb, Rules.rules}
+use borrow.Author.{Tests.eq-eqb, Tests.ne_eqb}
 use Rattle.rules.specs.Tables.{mode_zeros}
 use Rattle.mms.proofs.mode_zeros.Goals as goal
 

@@ -2,7 +2,6 @@
 use native.Mathlib.Omega.{arith}
 use borrow.Author.Rules.{rules}
 use Rattle.rules.specs.Tables.{mms}
-use Rattle.fields.specs.Place.{Reaches}
 use Rattle.fields.proofs.Walks.{none, begin, stop, end, joined}
 use Rattle.mms.proofs.Onward.{low, onward}
 use Rattle.mms.proofs.past_modes.Goals as goal

@@ -1,9 +1,5 @@
-use native.Mathlib.Omega.{arith}
-use borrow.Author.Rules.{rules}
 use Rattle.rules.specs.Tables.{mms}
 use Rattle.fields.specs.Place.{Reaches}
-use Rattle.fields.proofs.Walks.{none, begin, stop, end, joined}
-use Rattle.mms.proofs.Onward.{low, onward}
 use Rattle.mms.proofs.past_modes.Given as goal
 
 abbrev pub invariant-loop-left : goal.invariant-loop-left

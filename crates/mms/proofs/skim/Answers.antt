@@ -1,16 +1,15 @@
 -- At each turn what is left of the records leaves what all of them leave, and none of them goes past index 255.
-use Prim.Native.Nat.{◌+◌, ◌≤◌}
+use Prim.Native.Nat.{◌≤◌}
 use native.Mathlib.Omega.{arith}
 use mathlib.Core.Path.{refl}
-use borrow.Author.{Rules.rules, Tests.not-false}
+use borrow.Author.{Rules.rules}
 use Rattle.rules.specs.Tables.{mms}
-use Rattle.fields.specs.Place.{Reaches}
 use Rattle.fields.proofs.Walks.{begin}
 use Rattle.mms.proofs.Onward.{onward}
 use Rattle.mms.proofs.skim.Goals as goal
 
 pub loop-left-init : goal.loop-left-init
-loop-left-init c = (begin mms (λ done. omega arith) (search rules), omega (arith, c.if-o-gt256.false))
+loop-left-init c = (begin mms (λ done. omega arith) (search rules), omega arith)
 
 pub overflow_add-at : goal.overflow_add-at
 overflow_add-at c =

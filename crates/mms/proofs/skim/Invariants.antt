@@ -1,11 +1,6 @@
 use Prim.Native.Nat.{◌+◌, ◌≤◌}
-use native.Mathlib.Omega.{arith}
-use mathlib.Core.Path.{refl}
-use borrow.Author.{Rules.rules, Tests.not-false}
 use Rattle.rules.specs.Tables.{mms}
 use Rattle.fields.specs.Place.{Reaches}
-use Rattle.fields.proofs.Walks.{begin}
-use Rattle.mms.proofs.Onward.{onward}
 use Rattle.mms.proofs.skim.Given as goal
 
 abbrev pub invariant-loop-left : goal.invariant-loop-left

@@ -1,5 +1,5 @@
 -- One test for each kind of mode, in the order of the rule.
-use borrow.Author.{Rules.rules, Tests.le-leb, Tests.lt-leb, Tests.eq-eqb, Tests.ne_eqb}
+use borrow.Author.{Tests.le-leb, Tests.lt-leb, Tests.eq-eqb, Tests.ne_eqb}
 use Rattle.rules.specs.Text.{is_wide, is_long, good_mode}
 use Rattle.ntt.proofs.good_mode.Goals as goal
 

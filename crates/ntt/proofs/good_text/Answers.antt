@@ -1,9 +1,6 @@
 -- Whether all of it is a text is whether blocks fill it from the place that the walk has come to.
-use Prim.Native.Nat.{◌-◌}
 use native.Mathlib.Omega.{arith}
-use lib.ListN.{length}
-use borrow.Author.Rules.{rules}
-use Rattle.ntt.proofs.Texts.{Comes, text-empty, text-begin, text-end, text-short, text-mode, text-on, tail-whole}
+use Rattle.ntt.proofs.Texts.{text-empty, text-begin, text-end, text-short, text-mode, text-on, tail-whole}
 use Rattle.ntt.proofs.good_text.Goals as goal
 
 pub returns-then-s-eq0 : goal.returns-then-s-eq0

@@ -1,8 +1,6 @@
 use Prim.Native.Nat.{◌-◌}
-use native.Mathlib.Omega.{arith}
 use lib.ListN.{length}
-use borrow.Author.Rules.{rules}
-use Rattle.ntt.proofs.Texts.{Comes, text-empty, text-begin, text-end, text-short, text-mode, text-on, tail-whole}
+use Rattle.ntt.proofs.Texts.{Comes}
 use Rattle.ntt.proofs.good_text.Given as goal
 
 abbrev pub invariant-loop-at : goal.invariant-loop-at

@@ -6,7 +6,8 @@ use Rattle.ntt.proofs.is_page.Goals as goal
 
 pub returns-then-mode-le6 : goal.returns-then-mode-le6
 unfolding is_page
-returns-then-mode-le6 c = let m = c.args.mode in simp (le-leb m 6 (omega arith))
+returns-then-mode-le6 c =
+    let m = c.args.mode in simp (le-leb m 6 (omega arith))
 
 pub returns-then-mode-lt9 : goal.returns-then-mode-lt9
 unfolding is_page

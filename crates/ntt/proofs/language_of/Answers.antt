@@ -1,5 +1,4 @@
 -- The bytes behind the protocol version.
-use borrow.Author.Rules.{rules}
 use Rattle.ntt.proofs.Head.{language-is}
 use Rattle.ntt.proofs.language_of.Goals as goal
 

@@ -2,7 +2,6 @@
 use native.Mathlib.Omega.{arith}
 use mathlib.Core.Path.{ap, ◌∙◌}
 use lib.{ListN.length, Seq.take_all}
-use borrow.Author.Rules.{rules}
 use Rattle.rules.specs.{Bytes.from, Tables.name_of, Tables.name_fair, Text.good_text}
 use Rattle.rules.proofs.Places.{from-length}
 use Rattle.ntt.proofs.name_fair.Goals as goal

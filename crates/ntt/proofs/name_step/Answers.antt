@@ -1,6 +1,5 @@
 -- The tests are made in the order 8, 9, 10, on as many bytes as the record has; then what is left is what the descriptors leave.
 use native.Mathlib.Omega.{arith}
-use borrow.Author.Rules.{rules}
 use Rattle.rules.specs.Tables.{ntt, name_fair}
 use Rattle.fields.proofs.Laws.{part-whole, too_short, long-enough, taken-short, taken-zeros, taken-unfair, taken_here, step-no, step_so}
 use Rattle.ntt.proofs.name_step.Goals as goal

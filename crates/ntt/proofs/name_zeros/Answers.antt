@@ -1,5 +1,4 @@
 -- The seven bits below the application flag.
-use borrow.Author.Rules.{rules}
 use Rattle.rules.specs.Tables.{name_zeros}
 use Rattle.ntt.proofs.name_zeros.Goals as goal
 

@@ -1,7 +1,6 @@
 -- The head is one byte: 8 where it isn't there, and it has neither zero bits nor limits.
 use native.Mathlib.Omega.{arith}
 use mathlib.Core.Path.{refl}
-use borrow.Author.Rules.{rules}
 use Rattle.rules.specs.Tables.{ntt_head}
 use Rattle.rules.specs.declared.Table.TheVariants.{Ntt}
 use Rattle.fields.proofs.Laws.{too_short, long-enough, taken-short}

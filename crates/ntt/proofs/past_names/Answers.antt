@@ -1,9 +1,7 @@
 -- What the whole walk leaves is what the walk over the records that are still to come leaves.
-use Prim.Native.Nat.{ℕ, ◌<◌}
 use native.Mathlib.Omega.{arith}
 use borrow.Author.Rules.{rules}
 use Rattle.rules.specs.Tables.{ntt}
-use Rattle.fields.specs.Place.{Reaches}
 use Rattle.fields.proofs.Walks.{none, begin, stop, end}
 use Rattle.ntt.proofs.Onward.{onward}
 use Rattle.ntt.proofs.past_names.Goals as goal

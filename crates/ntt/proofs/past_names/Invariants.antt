@@ -1,10 +1,6 @@
 use Prim.Native.Nat.{ℕ, ◌<◌}
-use native.Mathlib.Omega.{arith}
-use borrow.Author.Rules.{rules}
 use Rattle.rules.specs.Tables.{ntt}
 use Rattle.fields.specs.Place.{Reaches}
-use Rattle.fields.proofs.Walks.{none, begin, stop, end}
-use Rattle.ntt.proofs.Onward.{onward}
 use Rattle.ntt.proofs.past_names.Given as goal
 
 -- from whatever index on: the loop doesn't carry one, since no record takes any

@@ -1,6 +1,5 @@
 -- The look_up is the rule's tuning, its line is written behind the others, and it is one at most.
 use native.Mathlib.Omega.{arith}
-use borrow.Author.Rules.{rules}
 use Rattle.printout.specs.Lines.{box_of}
 use Rattle.printout.proofs.Laws.{added, one_line}
 use Rattle.printout.proofs.add_line.Goals as goal

@@ -7,7 +7,9 @@ use Rattle.printout.proofs.Laws.{blank, no-lines-in, none_written, all-written}
 use Rattle.printout.proofs.channel_lines.Goals as goal
 
 pub returns-then-check-ne0 : goal.returns-then-check-ne0
-returns-then-check-ne0 c = let both = none_written _ _ _ (no-lines-in _ _ _ c.check.ensures c.if-check-ne0.true _) in record { wrote = both.0; count_value = both.1.0; counts = both.1.1 }
+returns-then-check-ne0 c =
+    let both = none_written _ _ _ (no-lines-in _ _ _ c.check.ensures c.if-check-ne0.true _) in
+    record { wrote = both.0; count_value = both.1.0; counts = both.1.1 }
 
 pub list_records-requires : goal.list_records-requires
 list_records-requires c = record {
@@ -46,4 +48,6 @@ listed_lines-requires c = record {
 }
 
 pub returns : goal.returns
-returns c = let both = all-written _ _ _ _ c.listed_lines.result c.listed_lines.ensures in record { wrote = both.0; count_value = both.1.0; counts = both.1.1 }
+returns c =
+    let both = all-written _ _ _ _ c.listed_lines.result c.listed_lines.ensures in
+    record { wrote = both.0; count_value = both.1.0; counts = both.1.1 }

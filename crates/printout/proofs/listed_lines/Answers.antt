@@ -1,15 +1,12 @@
 -- After each turn the lines of the channels below are written and counted.
-use Prim.Native.Nat.{◌-◌, ◌≤◌}
 use native.Mathlib.Omega.{arith}
 use mathlib.Core.Path.{◌≡◌, refl, ◌∙◌}
-use lib.ListN.{length}
-use borrow.Author.Rules.{rules}
-use Rattle.printout.specs.Lines.{box_of, line_of, longest, Below}
 use Rattle.printout.proofs.Laws.{below-0, room-for-one, below_more}
 use Rattle.printout.proofs.listed_lines.Goals as goal
 
 pub loop-number-init : goal.loop-number-init
-loop-number-init c = let a = c.args in (omega arith, refl, below-0 _ _ a.out.now)
+loop-number-init c =
+    let a = c.args in (omega arith, refl, below-0 _ _ a.out.now)
 
 pub add_line-lines-requires : goal.add_line-lines-requires
 add_line-lines-requires c =

@@ -1,10 +1,7 @@
 use Prim.Native.Nat.{◌-◌, ◌≤◌}
-use native.Mathlib.Omega.{arith}
-use mathlib.Core.Path.{◌≡◌, refl, ◌∙◌}
+use mathlib.Core.Path.{◌≡◌}
 use lib.ListN.{length}
-use borrow.Author.Rules.{rules}
 use Rattle.printout.specs.Lines.{box_of, line_of, longest, Below}
-use Rattle.printout.proofs.Laws.{below-0, room-for-one, below_more}
 use Rattle.printout.proofs.listed_lines.Given as goal
 
 abbrev pub invariant-loop-number : goal.invariant-loop-number

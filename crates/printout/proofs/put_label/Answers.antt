@@ -1,6 +1,5 @@
 -- Where the line-up has no line nothing is written; else the label's line, and a name has at most 255 bytes.
 use native.Mathlib.Omega.{arith}
-use borrow.Author.Rules.{rules}
 use Rattle.text.proofs.Written.{short}
 use Rattle.printout.specs.Lines.{box_of}
 use Rattle.printout.proofs.Laws.{no_label, some-label}

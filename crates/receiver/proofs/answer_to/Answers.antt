@@ -1,8 +1,6 @@
 -- Another map is answered at once; else the table's step is put into the state.
 use Rattle.receiver.specs.Taking.{answered}
 use Rattle.rules.specs.Gathering as Gathering
-use Rattle.rules.specs.Holding.{stepped}
-use borrow.Author.Rules.{rules}
 use Rattle.receiver.proofs.answer_to.Goals as goal
 
 pub returns : goal.returns

@@ -1,7 +1,6 @@
 -- Whether the answer takes the section in decides the store: kept out, it is as it was; taken in, the bytes are put.
 use mathlib.Core.Path.{sym, ◌∙◌}
 use Rattle.receiver.proofs.Laws.{place, taken, kept_out}
-use borrow.Author.Rules.{rules}
 use Rattle.receiver.proofs.hold.Goals as goal
 
 pub put-requires : goal.put-requires

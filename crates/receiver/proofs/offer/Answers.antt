@@ -3,7 +3,6 @@
 use Prim.Native.Nat.{◌<◌, ◌≤◌}
 use mathlib.Core.Path.{sym, ◌∙◌}
 use lib.ListN.{length}
-use borrow.Author.{Rules.rules, Tests.not-true, Tests.not-false}
 use Rattle.rules.specs.Holding.{limit_of, store_size}
 use Rattle.rules.proofs.Told.{offer-told}
 use Rattle.receiver.proofs.Laws.{admitted, short-store, not-formed, refused}
@@ -52,8 +51,9 @@ returns-in-Refused c =
     }
 
 pub returns-in-Right : goal.returns-in-Right
-returns-in-Right c = let h = c.hold.ensures in record {
-  value = h.value;
-  store_after = h.store_after;
-  answer_value = offer-told _ _ _ h.value;
-}
+returns-in-Right c =
+    let h = c.hold.ensures in record {
+      value = h.value;
+      store_after = h.store_after;
+      answer_value = offer-told _ _ _ h.value;
+    }

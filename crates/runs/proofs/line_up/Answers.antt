@@ -1,7 +1,6 @@
 -- As in the program, with one piece.
 use native.Mathlib.Omega.{arith}
 use mathlib.Core.{Path.refl, Path.ap, Path.◌∙◌, List.[], List.◌∷◌}
-use borrow.Author.Rules.{rules}
 use Rattle.rules.specs.Lineup.{lineup}
 use Rattle.printout.proofs.Shown.{all_shown, refused-shown}
 use Rattle.runs.proofs.Laws.{two-first}

@@ -1,5 +1,4 @@
 -- No entry, or the frequency that the record at its place says.
-use borrow.Author.Rules.{rules}
 use Rattle.rules.specs.Tables.{cds}
 use Rattle.rules.specs.declared.Table.TheVariants.{Cds}
 use Rattle.search.specs.Found.{carrier_found}

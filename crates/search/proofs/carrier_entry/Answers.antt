@@ -1,16 +1,13 @@
 -- At both loops the entry of the first match from here on is the answer.
-use Prim.Native.Nat.{◌+◌, ◌-◌, ◌*◌, ◌≤◌}
 use native.Mathlib.{Omega.arith, Nat.sub-zero}
 use mathlib.Core.Path.{refl, sym, ap, ◌∙◌}
-use mathlib.Core.Logic.{⊎_elim}
-use borrow.Author.Rules.{rules}
 use Rattle.rules.specs.Tables.{cds}
 use Rattle.rules.specs.Tuning.{is_carrier}
 use Rattle.rules.specs.declared.Table.TheVariants.{Cds}
 use Rattle.fields.proofs.Laws.{at-got, at-no}
-use Rattle.search.specs.{Entries.outline_in, Entries.entry_of, declared.Span.Span}
+use Rattle.search.specs.{Entries.outline_in, declared.Span.Span}
 use Rattle.search.proofs.Sections.{one_of, behind-all, live-place}
-use Rattle.search.proofs.Entries.{Outside, Inside, set-off, none_left, go-in, any-bit, go-out, fits, small, never, match, pass}
+use Rattle.search.proofs.Entries.{set-off, none_left, go-in, any-bit, go-out, fits, small, never, match, pass}
 use Rattle.search.proofs.carrier_entry.Goals as goal
 use Rattle.search.proofs.carrier_entry.Goals.{else-loop-k-test, then-loop-k-test+in_default}
 
@@ -57,8 +54,8 @@ pub loop-i-preserved : goal.loop-i-preserved
 unfolding cds
 loop-i-preserved c =
     elim c.loop-k-test.branch [
-      else-loop-k-test w ↦ go-out _ _ _ _ c.loop-k.invariant.0 (omega arith)
-    | then-loop-k-test+in_default w ↦ absurd (never _ _ _ _ c.loop-k.invariant.0 (omega arith) (at-no _ _ _ w.past_counted.ensures _ w.in_default.is))
+      | else-loop-k-test w ↦ go-out _ _ _ _ c.loop-k.invariant.0 (omega arith)
+      | then-loop-k-test+in_default w ↦ absurd (never _ _ _ _ c.loop-k.invariant.0 (omega arith) (at-no _ _ _ w.past_counted.ensures _ w.in_default.is))
     ]
 
 pub returns : goal.returns

@@ -2,7 +2,6 @@
 use native.Mathlib.Omega.{arith}
 use Rattle.search.proofs.Laws.{product}
 use Rattle.rules.specs.Tables.{carrier_khz}
-use borrow.Author.Rules.{rules}
 use Rattle.search.proofs.carrier_khz.Goals as goal
 
 pub overflow_mul-result : goal.overflow_mul-result

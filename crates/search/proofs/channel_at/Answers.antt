@@ -1,5 +1,4 @@
 -- No entry, or what the record at its place says.
-use borrow.Author.Rules.{rules}
 use Rattle.rules.specs.Tables.{vcm}
 use Rattle.rules.specs.declared.Table.TheVariants.{Vcm}
 use Rattle.search.specs.Found.{channel_found}

@@ -1,16 +1,14 @@
 -- At both loops the entry of the first match from here on is the answer.
-use Prim.Native.Nat.{◌-◌}
 use native.Mathlib.{Omega.arith, Nat.sub-zero, Nat.add-zero}
 use mathlib.Core.Path.{sym, ap, ◌∙◌}
-use mathlib.Core.Logic.{⊎_elim}
-use borrow.Author.{Rules.rules, Tests.eq-eqb, Tests.ne_eqb}
+use borrow.Author.{Tests.eq-eqb, Tests.ne_eqb}
 use Rattle.rules.specs.Tables.{vcm}
 use Rattle.rules.specs.Tuning.{is_channel}
 use Rattle.rules.specs.declared.Table.TheVariants.{Vcm}
 use Rattle.fields.proofs.Laws.{at-got, at-no}
-use Rattle.search.specs.{Entries.outline_in, Entries.entry_of}
+use Rattle.search.specs.{Entries.outline_in}
 use Rattle.search.proofs.Sections.{one_of, behind-all, live-place}
-use Rattle.search.proofs.Entries.{Outside, Inside, set-off, none_left, go-in, go-out, fits, small, never, match, pass}
+use Rattle.search.proofs.Entries.{set-off, none_left, go-in, go-out, fits, small, never, match, pass}
 use Rattle.search.proofs.Entries.{channel-goes, channel-takes}
 use Rattle.search.proofs.channel_entry.Goals as goal
 use Rattle.search.proofs.channel_entry.Goals.{else-loop-k-test, then-loop-k-test+in_default}
@@ -54,8 +52,8 @@ pub loop-i-preserved : goal.loop-i-preserved
 unfolding vcm
 loop-i-preserved c =
     elim c.loop-k-test.branch [
-      else-loop-k-test w ↦ go-out _ _ _ _ c.loop-k.invariant (omega arith)
-    | then-loop-k-test+in_default w ↦ absurd (never _ _ _ _ c.loop-k.invariant (omega arith) (at-no _ _ _ w.past_counted.ensures _ w.in_default.is))
+      | else-loop-k-test w ↦ go-out _ _ _ _ c.loop-k.invariant (omega arith)
+      | then-loop-k-test+in_default w ↦ absurd (never _ _ _ _ c.loop-k.invariant (omega arith) (at-no _ _ _ w.past_counted.ensures _ w.in_default.is))
     ]
 
 pub returns : goal.returns

@@ -1,16 +1,8 @@
 use Prim.Native.Nat.{◌-◌}
-use native.Mathlib.{Omega.arith, Nat.sub-zero, Nat.add-zero}
-use mathlib.Core.Path.{sym, ap, ◌∙◌}
-use mathlib.Core.Logic.{⊎_elim}
-use borrow.Author.{Rules.rules, Tests.eq-eqb, Tests.ne_eqb}
-use Rattle.rules.specs.Tables.{vcm}
 use Rattle.rules.specs.Tuning.{is_channel}
 use Rattle.rules.specs.declared.Table.TheVariants.{Vcm}
-use Rattle.fields.proofs.Laws.{at-got, at-no}
-use Rattle.search.specs.{Entries.outline_in, Entries.entry_of}
-use Rattle.search.proofs.Sections.{one_of, behind-all, live-place}
-use Rattle.search.proofs.Entries.{Outside, Inside, set-off, none_left, go-in, go-out, fits, small, never, match, pass}
-use Rattle.search.proofs.Entries.{channel-goes, channel-takes}
+use Rattle.search.specs.{Entries.entry_of}
+use Rattle.search.proofs.Entries.{Outside, Inside}
 use Rattle.search.proofs.channel_entry.Given as goal
 
 abbrev pub invariant-loop-k : goal.invariant-loop-k

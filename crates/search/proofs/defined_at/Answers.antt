@@ -1,5 +1,4 @@
 -- No entry, or what the range at its place says.
-use borrow.Author.Rules.{rules}
 use Rattle.rules.specs.{Tables.dcm, Tuning.defined_by}
 use Rattle.rules.specs.declared.Table.TheVariants.{Dcm}
 use Rattle.search.proofs.Named.{no-entry, an-entry}

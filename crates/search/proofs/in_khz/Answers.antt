@@ -1,6 +1,6 @@
 -- By the unit.
 use native.Mathlib.Omega.{arith}
-use borrow.Author.{Tests.eq-eqb, Tests.ne_eqb, Rules.rules}
+use borrow.Author.{Tests.eq-eqb, Tests.ne_eqb}
 use Rattle.rules.specs.Tables.{in_khz}
 use Rattle.search.proofs.in_khz.Goals as goal
 

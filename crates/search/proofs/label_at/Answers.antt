@@ -1,7 +1,6 @@
 -- No entry, or the name behind the bytes in front of it.
 use mathlib.Core.Path.{refl}
 use native.Mathlib.Omega.{arith}
-use borrow.Author.Rules.{rules}
 use Rattle.search.specs.Found.{label_named}
 use Rattle.search.proofs.Named.{a-label}
 use Rattle.search.proofs.label_at.Goals as goal

@@ -4,7 +4,6 @@ use mathlib.Core.Path.{◌≡◌, sym}
 use lib.{ListN.length, Seq.length-take-le}
 use native.Mathlib.Omega.{arith}
 use Rattle.rules.specs.Section.{without_crc}
-use borrow.Author.Rules.{rules}
 use Rattle.search.proofs.live_bytes.Goals as goal
 
 pub returns-then-section-lt4 : goal.returns-then-section-lt4

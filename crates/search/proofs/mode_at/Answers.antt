@@ -1,5 +1,4 @@
 -- No entry, or what the record at its place says.
-use borrow.Author.Rules.{rules}
 use Rattle.rules.specs.Tables.{mms}
 use Rattle.rules.specs.declared.Table.TheVariants.{Mms}
 use Rattle.search.specs.Found.{mode_found}

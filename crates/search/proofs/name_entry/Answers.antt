@@ -1,16 +1,13 @@
 -- At both loops the entry of the first match from here on is the answer.
-use Prim.Native.Nat.{◌-◌}
 use native.Mathlib.{Omega.arith, Nat.sub-zero, Nat.add-zero}
 use mathlib.Core.Path.{sym, ap, ◌∙◌}
-use mathlib.Core.Logic.{⊎_elim}
-use borrow.Author.{Rules.rules}
 use Rattle.rules.specs.Tables.{ntt}
 use Rattle.rules.specs.Label.{is_name}
 use Rattle.rules.specs.declared.Table.TheVariants.{Ntt}
 use Rattle.fields.proofs.Laws.{at-got, at-no}
-use Rattle.search.specs.{Entries.outline_in, Entries.entry_by}
+use Rattle.search.specs.{Entries.outline_in}
 use Rattle.search.proofs.Sections.{one_of, behind-all, live-place}
-use Rattle.search.proofs.Entries.{Outside, Inside, set_out, none_left, go-in, go-out, fits, small, never, match_by, pass-by}
+use Rattle.search.proofs.Entries.{set_out, none_left, go-in, go-out, fits, small, never, match_by, pass-by}
 use Rattle.search.proofs.Entries.{name-goes, name-takes}
 use Rattle.search.proofs.name_entry.Goals as goal
 use Rattle.search.proofs.name_entry.Goals.{else-loop-k-test, then-loop-k-test+in_default}
@@ -55,8 +52,8 @@ pub loop-i-preserved : goal.loop-i-preserved
 unfolding ntt
 loop-i-preserved c =
     elim c.loop-k-test.branch [
-      else-loop-k-test w ↦ go-out _ _ _ _ c.loop-k.invariant (omega arith)
-    | then-loop-k-test+in_default w ↦ absurd (never _ _ _ _ c.loop-k.invariant (omega arith) (at-no _ _ _ (rw w.name_size.ensures.value at w.past_counted.ensures) _ w.in_default.is))
+      | else-loop-k-test w ↦ go-out _ _ _ _ c.loop-k.invariant (omega arith)
+      | then-loop-k-test+in_default w ↦ absurd (never _ _ _ _ c.loop-k.invariant (omega arith) (at-no _ _ _ (rw w.name_size.ensures.value at w.past_counted.ensures) _ w.in_default.is))
     ]
 
 pub returns : goal.returns

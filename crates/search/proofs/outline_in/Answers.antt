@@ -1,5 +1,4 @@
 -- An outline, or none.
-use borrow.Author.Rules.{rules}
 use Rattle.search.specs.Entries.{outline_in}
 use Rattle.search.proofs.outline_in.Goals as goal
 

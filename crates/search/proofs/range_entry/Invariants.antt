@@ -1,15 +1,8 @@
 use Prim.Native.Nat.{◌+◌, ◌-◌, ◌*◌, ◌≤◌}
-use native.Mathlib.{Omega.arith, Nat.sub-zero}
-use mathlib.Core.Path.{refl, sym, ap, ◌∙◌}
-use mathlib.Core.Logic.{⊎_elim}
-use borrow.Author.Rules.{rules}
-use Rattle.rules.specs.Tables.{dcm}
 use Rattle.rules.specs.Tuning.{is_range}
 use Rattle.rules.specs.declared.Table.TheVariants.{Dcm}
-use Rattle.fields.proofs.Laws.{at-got, at-no}
-use Rattle.search.specs.{Entries.outline_in, Entries.entry_of, declared.Span.Span}
-use Rattle.search.proofs.Sections.{one_of, behind-all, live-place}
-use Rattle.search.proofs.Entries.{Outside, Inside, set-off, none_left, go-in, any-bit, go-out, fits, small, never, match, pass}
+use Rattle.search.specs.{Entries.entry_of}
+use Rattle.search.proofs.Entries.{Outside, Inside}
 use Rattle.search.proofs.range_entry.Given as goal
 
 abbrev pub invariant-loop-k : goal.invariant-loop-k

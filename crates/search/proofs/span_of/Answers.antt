@@ -1,5 +1,4 @@
 -- By the table: a record's index and count, or the number that a channel record carries; a name has none.
-use borrow.Author.Rules.{rules}
 use Rattle.rules.specs.Tables.{cds, vcm, dcm}
 use Rattle.search.specs.Entries.{span_of}
 use Rattle.search.proofs.span_of.Goals as goal

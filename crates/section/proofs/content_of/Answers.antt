@@ -1,6 +1,5 @@
 -- Without a header there is a refusal; with one the content is what comes behind it.
 use mathlib.Core.Path.{sym, ap, ◌∙◌}
-use borrow.Author.Rules.{rules}
 use Rattle.section.specs.Reads.{answered_as}
 use Rattle.section.proofs.Whole.{shown-no, content-unheaded, content-headed}
 use Rattle.section.proofs.content_of.Goals as goal

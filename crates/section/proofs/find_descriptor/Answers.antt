@@ -1,6 +1,5 @@
 -- The part that is cut out is the one that the question names, and it begins where the question says.
 use mathlib.Core.Path.{refl, ap, ◌∙◌}
-use borrow.Author.Rules.{rules}
 use Rattle.rules.specs.{Bytes.from, Section.part_of, Section.part_at}
 use Rattle.fields.specs.Place.{further}
 use Rattle.fields.proofs.Laws.{address-at}

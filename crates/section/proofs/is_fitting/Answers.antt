@@ -1,6 +1,5 @@
 -- Each test is a clause of refusal 3.
 use borrow.Author.Tests.{eq-eqb, le-leb, lt-leb, ne_eqb}
-use borrow.Author.Rules.{rules}
 use Rattle.rules.specs.Section.{fitting}
 use Rattle.section.proofs.is_fitting.Goals as goal
 

@@ -1,7 +1,6 @@
 -- Each stage refuses with its number, or hands on where the next begins; the closing list has the bytes that are left, so its place is known.
 use native.Mathlib.Omega.{arith}
 use mathlib.Core.Path.{sym, ◌∙◌}
-use borrow.Author.Rules.{rules}
 use Rattle.fields.proofs.{Laws.at_in, Laws.at-got, Laws.at-no, Outlines.no-area, Outlines.an-area}
 use Rattle.section.proofs.Whole.{shown-no, unfronted, unread, unclosed, read_right}
 use Rattle.section.proofs.structured.Goals as goal

@@ -1,6 +1,5 @@
 -- The place of the gathering half, as the rule has it.
 use Rattle.rules.specs.Gathering as Gathering
-use borrow.Author.Rules.{rules}
 use Rattle.state.proofs.gathered_at.Goals as goal
 
 pub returns : goal.returns

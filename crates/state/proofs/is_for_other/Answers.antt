@@ -2,7 +2,6 @@
 use mathlib.Core.Path.{refl}
 use Rattle.rules.specs.Holding.{not_ours}
 use Rattle.rules.specs.declared.Table.TheVariants.{Vcm, Dcm}
-use borrow.Author.Rules.{rules}
 use Rattle.state.proofs.Laws.{map-asked}
 use Rattle.state.proofs.is_for_other.Goals as goal
 
@@ -16,11 +15,13 @@ returns-in-Mms c = simp c.in-Mms.is
 
 pub returns-in-Vcm : goal.returns-in-Vcm
 unfolding not_ours
-returns-in-Vcm c = let a = c.args in map-asked a.s _ a.map a.language Vcm c.in-Vcm.is refl refl
+returns-in-Vcm c =
+    let a = c.args in map-asked a.s _ a.map a.language Vcm c.in-Vcm.is refl refl
 
 pub returns-in-Dcm : goal.returns-in-Dcm
 unfolding not_ours
-returns-in-Dcm c = let a = c.args in map-asked a.s _ a.map a.language Dcm c.in-Dcm.is refl refl
+returns-in-Dcm c =
+    let a = c.args in map-asked a.s _ a.map a.language Dcm c.in-Dcm.is refl refl
 
 pub returns-in-Ntt : goal.returns-in-Ntt
 unfolding not_ours

@@ -1,5 +1,5 @@
 -- Three bytes, one after the other.
-use borrow.Author.{Rules.rules, Tests.eq-eqb, Tests.ne_eqb}
+use borrow.Author.{Tests.eq-eqb, Tests.ne_eqb}
 use Rattle.rules.specs.{Bytes.byte, Holding.same_language}
 use Rattle.state.proofs.is_language.Goals as goal
 

@@ -1,5 +1,5 @@
 -- Table, map and revision, in the rule's order.
-use borrow.Author.{Rules.rules, Tests.eq-eqb, Tests.ne_eqb}
+use borrow.Author.{Tests.eq-eqb, Tests.ne_eqb}
 use Rattle.rules.specs.Tuning.{is_section}
 use Rattle.state.proofs.is_section_of.Goals as goal
 

@@ -1,6 +1,5 @@
 -- The place of the live half, as the rule has it.
 use Rattle.rules.specs.Gathering as Gathering
-use borrow.Author.Rules.{rules}
 use Rattle.state.proofs.live_section.Goals as goal
 
 pub returns : goal.returns

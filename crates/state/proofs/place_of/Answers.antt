@@ -2,7 +2,6 @@
 use Prim.Native.Nat.{◌+◌, ◌*◌}
 use native.Mathlib.Omega.{arith}
 use Rattle.rules.specs.Gathering as Gathering
-use borrow.Author.Rules.{rules}
 use Rattle.state.proofs.Laws.{some-places}
 use Rattle.state.proofs.place_of.Goals as goal
 

@@ -2,8 +2,7 @@
 use native.Mathlib.Omega.{arith}
 use mathlib.Core.Path.{ap, ◌∙◌}
 use Rattle.rules.specs.Gathering as Gathering
-use Rattle.rules.specs.{Bytes.from, Holding.section_at}
-use borrow.Author.Rules.{rules}
+use Rattle.rules.specs.{Bytes.from}
 use Rattle.fields.specs.Place.{further}
 use Rattle.fields.proofs.Laws.{place_inside, further-none}
 use Rattle.state.proofs.section_at.Goals as goal

@@ -1,6 +1,5 @@
 -- The same product as the rule's, of small numbers.
 use Rattle.rules.specs.Gathering as Gathering
-use borrow.Author.Rules.{rules}
 use Rattle.state.proofs.store_size.Goals as goal
 
 pub returns : goal.returns

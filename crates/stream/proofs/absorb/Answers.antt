@@ -3,7 +3,6 @@ use Prim.Native.Nat.{◌+◌, ◌≤◌}
 use native.Mathlib.Omega.{arith}
 use mathlib.Core.Path.{sym}
 use lib.Seq.{length-take-le}
-use borrow.Author.Rules.{rules}
 use Rattle.stream.proofs.Moved.{absorbed, rest-kept, rest-size}
 use Rattle.stream.proofs.absorb.Goals as goal
 

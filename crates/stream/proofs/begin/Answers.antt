@@ -1,5 +1,4 @@
 -- A fresh state, and nothing counted.
-use borrow.Author.Rules.{rules}
 use Rattle.stream.specs.Tallied.{begun}
 use Rattle.stream.proofs.begin.Goals as goal
 

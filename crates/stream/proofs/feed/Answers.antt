@@ -2,9 +2,8 @@
 use native.Mathlib.Omega.{arith}
 use mathlib.Core.Path.{sym, ap}
 use lib.{ListN.length, Seq.length-take-le}
-use borrow.Author.Rules.{rules}
 use Rattle.rules.proofs.Places.{from-length}
-use Rattle.stream.proofs.Laws.{Going, going, rest-is, going_on, stopped, used-up}
+use Rattle.stream.proofs.Laws.{going, rest-is, going_on, stopped, used-up}
 use Rattle.stream.proofs.feed.Goals as goal
 
 pub returns-then-rest-size : goal.returns-then-rest-size

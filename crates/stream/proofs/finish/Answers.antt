@@ -1,5 +1,4 @@
 -- With nothing kept nothing is offered; else what is kept is the last section.
-use borrow.Author.Rules.{rules}
 use Rattle.stream.proofs.Laws.{nothing-kept, last-kept}
 use Rattle.stream.proofs.finish.Goals as goal
 
@@ -9,4 +8,5 @@ returns c =
     last-kept a.t a.store.now a.kept.now _ c.if-kept-eq0.false c.offer_one.ensures.store_after
 
 pub returns-then-kept-eq0 : goal.returns-then-kept-eq0
-returns-then-kept-eq0 c = let a = c.args in nothing-kept a.t a.store.now a.kept.now c.if-kept-eq0.true
+returns-then-kept-eq0 c =
+    let a = c.args in nothing-kept a.t a.store.now a.kept.now c.if-kept-eq0.true

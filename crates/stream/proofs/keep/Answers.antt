@@ -1,9 +1,8 @@
 -- After i turns i bytes are moved, and the bytes behind them are as they were.
-use Prim.Native.Nat.{◌-◌, ◌≤◌}
+use Prim.Native.Nat.{◌-◌}
 use native.Mathlib.Omega.{arith}
 use mathlib.Core.Path.{◌≡◌, refl}
-use borrow.Author.Rules.{rules}
-use Rattle.stream.proofs.Moved.{Moved, move, move-on, moved}
+use Rattle.stream.proofs.Moved.{move, move-on, moved}
 use Rattle.stream.proofs.keep.Goals as goal
 
 pub bounds-buffer-used : goal.bounds-buffer-used

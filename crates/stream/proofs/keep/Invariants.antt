@@ -1,8 +1,5 @@
 use Prim.Native.Nat.{◌-◌, ◌≤◌}
-use native.Mathlib.Omega.{arith}
-use mathlib.Core.Path.{◌≡◌, refl}
-use borrow.Author.Rules.{rules}
-use Rattle.stream.proofs.Moved.{Moved, move, move-on, moved}
+use Rattle.stream.proofs.Moved.{Moved}
 use Rattle.stream.proofs.keep.Given as goal
 
 abbrev pub invariant-loop-i : goal.invariant-loop-i

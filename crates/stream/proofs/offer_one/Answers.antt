@@ -1,6 +1,5 @@
 -- The offer is the rule's, and what it counts is the rule's count of one section.
 use native.Mathlib.Omega.{arith}
-use borrow.Author.Rules.{rules}
 use Rattle.stream.proofs.Laws.{offered-one}
 use Rattle.stream.proofs.offer_one.Goals as goal
 

@@ -1,6 +1,5 @@
 -- One arm for each answer.
 use native.Mathlib.Omega.{arith}
-use borrow.Author.Rules.{rules}
 use Rattle.rules.specs.Lineup.{refusals}
 use Rattle.stream.proofs.refusals_of.Goals as goal
 

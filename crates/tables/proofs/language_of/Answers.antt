@@ -1,6 +1,5 @@
 -- No header but that of names has one.
 use mathlib.Core.Path.{refl}
-use borrow.Author.Rules.{rules}
 use Rattle.rules.specs.{Form.no_language, Form.counted_header, Form.map_header, Section.header_of}
 use Rattle.tables.proofs.language_of.Goals as goal
 

@@ -1,7 +1,7 @@
 -- Each table's room goes over its own.
+use borrow.Author.Rules.{rules}
 use Prim.Native.Nat.{ℕ}
 use mathlib.Core.{Path.◌≡◌, Path.sym, Path.subst, List.List}
-use borrow.Author.Rules.{rules}
 use Rattle.rules.specs.{Bytes.from, Layout.records, declared.Table.Table}
 use Rattle.rules.specs.declared.Table.TheVariants as table
 use Rattle.fields.specs.{Place.Stands, Outline.layout_of, declared.Skip.Skip}
@@ -15,16 +15,16 @@ module _ (b : List ℕ) (r : Skip) (included count first at : ℕ) where
   as-table u e s = subst (λ (x : Table). Past x) (sym e) s
 
 pub returns-in-Cds : goal.returns-in-Cds
-returns-in-Cds c = as-table _ _ _ _ _ _ table.Cds c.in-Cds.is c.past_carriers.ensures
+returns-in-Cds c = as-table _ _ _ _ _ _ table.Cds c.in-Cds.is (search rules)
 
 pub returns-in-Mms : goal.returns-in-Mms
-returns-in-Mms c = as-table _ _ _ _ _ _ table.Mms c.in-Mms.is c.past_modes.ensures
+returns-in-Mms c = as-table _ _ _ _ _ _ table.Mms c.in-Mms.is (search rules)
 
 pub returns-in-Vcm : goal.returns-in-Vcm
-returns-in-Vcm c = as-table _ _ _ _ _ _ table.Vcm c.in-Vcm.is c.past_channels.ensures
+returns-in-Vcm c = as-table _ _ _ _ _ _ table.Vcm c.in-Vcm.is (search rules)
 
 pub returns-in-Dcm : goal.returns-in-Dcm
-returns-in-Dcm c = as-table _ _ _ _ _ _ table.Dcm c.in-Dcm.is c.past_ranges.ensures
+returns-in-Dcm c = as-table _ _ _ _ _ _ table.Dcm c.in-Dcm.is (search rules)
 
 pub returns-in-Ntt : goal.returns-in-Ntt
-returns-in-Ntt c = as-table _ _ _ _ _ _ table.Ntt c.in-Ntt.is c.past_names.ensures
+returns-in-Ntt c = as-table _ _ _ _ _ _ table.Ntt c.in-Ntt.is (search rules)

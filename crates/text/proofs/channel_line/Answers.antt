@@ -4,7 +4,6 @@ use mathlib.Core.{Path.refl, List.flatten}
 use Rattle.rules.specs.Lineup.{text, field, front, channel_line}
 use Rattle.text.specs.Written.{field_of, front_of, khz_front}
 use Rattle.text.proofs.Lines.{nothing, line-of}
-use borrow.Author.Rules.{rules}
 use Rattle.text.proofs.channel_line.Goals as goal
 
 pub returns-in-Refused : goal.returns-in-Refused

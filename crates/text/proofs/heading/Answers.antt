@@ -2,7 +2,6 @@
 use Rattle.rules.specs.Lineup.{text, line, heading}
 use Rattle.text.specs.Written.{line_of, count_lines}
 use Rattle.text.proofs.Written.{then, counts}
-use borrow.Author.Rules.{rules}
 use Rattle.text.proofs.heading.Goals as goal
 
 pub returns : goal.returns

@@ -1,5 +1,4 @@
 -- A digit, or a letter.
-use borrow.Author.Rules.{rules}
 use Rattle.text.proofs.Hex.{low_digit, high_digit}
 use Rattle.text.proofs.hex_digit.Goals as goal
 

@@ -2,7 +2,6 @@
 use Rattle.rules.specs.{Lineup.text, Lineup.line, LabelLines.label_heading}
 use Rattle.text.specs.Written.{line_of}
 use Rattle.text.proofs.Written.{then, counts}
-use borrow.Author.Rules.{rules}
 use Rattle.text.proofs.label_heading.Goals as goal
 
 pub returns : goal.returns

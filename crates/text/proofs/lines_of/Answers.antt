@@ -1,6 +1,5 @@
 -- One arm for each answer.
 use Rattle.rules.specs.Lineup.{channel_line}
-use borrow.Author.Rules.{rules}
 use Rattle.text.proofs.lines_of.Goals as goal
 
 pub returns-in-Refused : goal.returns-in-Refused

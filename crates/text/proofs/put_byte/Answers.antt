@@ -1,7 +1,6 @@
 -- A store of one byte is a text of one byte.
 use native.Mathlib.Omega.{arith}
 use mathlib.Core.Path.{refl}
-use borrow.Author.Rules.{rules}
 use Rattle.text.proofs.Written.{put_one}
 use Rattle.text.proofs.put_byte.Goals as goal
 

@@ -3,7 +3,6 @@ use native.Mathlib.Omega.{arith}
 use Rattle.rules.specs.Lineup.{text}
 use Rattle.text.proofs.Written.{then, short}
 use Rattle.text.specs.Written.{count_lines}
-use borrow.Author.Rules.{rules}
 use Rattle.text.proofs.put_counts.Goals as goal
 
 pub returns : goal.returns

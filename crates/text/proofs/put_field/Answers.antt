@@ -2,7 +2,6 @@
 use native.Mathlib.Omega.{arith}
 use Rattle.text.specs.Written.{field_of}
 use Rattle.text.proofs.Written.{then, short, decimal-short}
-use borrow.Author.Rules.{rules}
 use Rattle.text.proofs.put_field.Goals as goal
 
 pub put_number-requires : goal.put_number-requires

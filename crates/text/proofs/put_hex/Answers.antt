@@ -1,11 +1,7 @@
 -- After i turns the first i bytes are written. The measure is what is left of them.
-use Prim.Native.Nat.{◌-◌, ◌≤◌}
 use native.Mathlib.Omega.{arith}
 use mathlib.Core.Path.{◌≡◌, refl, ◌∙◌}
-use lib.ListN.{length, take}
-use borrow.Author.Rules.{rules}
-use Rattle.rules.specs.LabelLines.{hexadecimal}
-use Rattle.text.specs.Written.{Wrote}
+use lib.ListN.{length}
 use Rattle.text.proofs.{Written.short, Hex.hexed-0, Hex.hexed-at, Hex.hexed-more, Hex.hexed-all}
 use Rattle.text.proofs.put_hex.Goals as goal
 

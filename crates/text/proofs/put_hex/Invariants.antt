@@ -1,11 +1,8 @@
 use Prim.Native.Nat.{◌-◌, ◌≤◌}
-use native.Mathlib.Omega.{arith}
-use mathlib.Core.Path.{◌≡◌, refl, ◌∙◌}
+use mathlib.Core.Path.{◌≡◌}
 use lib.ListN.{length, take}
-use borrow.Author.Rules.{rules}
 use Rattle.rules.specs.LabelLines.{hexadecimal}
 use Rattle.text.specs.Written.{Wrote}
-use Rattle.text.proofs.{Written.short, Hex.hexed-0, Hex.hexed-at, Hex.hexed-more, Hex.hexed-all}
 use Rattle.text.proofs.put_hex.Given as goal
 
 abbrev pub invariant-loop-i : goal.invariant-loop-i

@@ -1,5 +1,4 @@
 -- Two digits, one behind the other.
-use borrow.Author.Rules.{rules}
 use Rattle.text.specs.Written.{hex_pair}
 use Rattle.text.proofs.Written.{then}
 use Rattle.text.proofs.put_pair.Goals as goal

@@ -3,7 +3,6 @@ use native.Mathlib.Omega.{arith}
 use Rattle.rules.specs.Lineup.{text}
 use Rattle.text.proofs.Written.{then, short}
 use Rattle.text.specs.Written.{field_of, khz_front}
-use borrow.Author.Rules.{rules}
 use Rattle.text.proofs.put_place.Goals as goal
 
 pub returns : goal.returns

@@ -2,7 +2,6 @@
 use native.Mathlib.Omega.{arith}
 use Rattle.rules.specs.Lineup.{text}
 use Rattle.text.proofs.{Written.then, Written.short, Lines.is_live, Lines.is-not-live}
-use borrow.Author.Rules.{rules}
 use Rattle.text.proofs.put_version.Goals as goal
 
 pub returns-then-live-eq1 : goal.returns-then-live-eq1

@@ -3,7 +3,6 @@ use native.Mathlib.Omega.{arith}
 use Rattle.rules.specs.Lineup.{text, line, version_lines}
 use Rattle.text.proofs.Written.{then, short}
 use Rattle.text.specs.Written.{line_of}
-use borrow.Author.Rules.{rules}
 use Rattle.text.proofs.put_versions.Goals as goal
 
 pub returns : goal.returns

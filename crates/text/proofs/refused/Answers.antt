@@ -1,5 +1,4 @@
 -- One text.
-use borrow.Author.Rules.{rules}
 use Rattle.rules.specs.Lineup.{text}
 use Rattle.text.proofs.Written.{counts}
 use Rattle.text.proofs.refused.Goals as goal

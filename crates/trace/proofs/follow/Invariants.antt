@@ -1,7 +1,6 @@
 -- Each turn offers one section, and the lent buffer keeps its length; the turns are the measure.
 use mathlib.Core.Path.{◌≡◌}
 use lib.ListN.{length}
-use borrow.Author.Rules.{rules}
 use Rattle.trace.proofs.follow.Given as goal
 
 abbrev pub invariant-loop-turns : goal.invariant-loop-turns

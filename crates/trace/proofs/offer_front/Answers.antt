@@ -2,7 +2,6 @@
 use native.Mathlib.Omega.{arith}
 use mathlib.Core.Path.{sym}
 use lib.Seq.{length-take-le}
-use borrow.Author.Rules.{rules}
 use Rattle.trace.proofs.offer_front.Goals as goal
 
 pub slice_bounds-offer-end : goal.slice_bounds-offer-end

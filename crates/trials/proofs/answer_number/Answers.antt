@@ -1,6 +1,5 @@
 -- One arm for each answer.
 use Rattle.trials.specs.Coded.{answer_number}
-use borrow.Author.Rules.{rules}
 use Rattle.trials.proofs.answer_number.Goals as goal
 
 pub returns-in-Refused : goal.returns-in-Refused

@@ -1,7 +1,6 @@
 -- The same sum.
 use mathlib.Core.Path.{refl}
 use Rattle.trials.specs.Coded.{head_number}
-use borrow.Author.Rules.{rules}
 use Rattle.trials.proofs.head_number.Goals as goal
 
 pub returns : goal.returns

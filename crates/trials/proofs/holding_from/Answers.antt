@@ -1,6 +1,5 @@
 -- Byte by byte.
 use Rattle.trials.specs.Coded.{holding_from}
-use borrow.Author.Rules.{rules}
 use Rattle.trials.proofs.holding_from.Goals as goal
 
 pub returns : goal.returns

@@ -1,5 +1,4 @@
 -- One arm for each answer.
-use borrow.Author.Rules.{rules}
 use Rattle.trials.specs.Coded.{label_kind}
 use Rattle.trials.proofs.label_kind.Goals as goal
 

@@ -1,6 +1,6 @@
 -- One arm for each part.
 use native.Mathlib.Omega.{arith}
-use borrow.Author.{Tests.ne_eqb, Rules.rules}
+use borrow.Author.{Tests.ne_eqb}
 use Rattle.trials.specs.Coded.{label_part}
 use Rattle.trials.proofs.label_part.Goals as goal
 
@@ -18,4 +18,5 @@ returns-in-2 c = simp (c.in-2.is, c.label_size.ensures)
 
 pub returns-in_default : goal.returns-in_default
 unfolding label_part
-returns-in_default c = let p = c.args.part in simp (ne_eqb p 0 (omega arith), ne_eqb p 1 (omega arith), ne_eqb p 2 (omega arith))
+returns-in_default c =
+    let p = c.args.part in simp (ne_eqb p 0 (omega arith), ne_eqb p 1 (omega arith), ne_eqb p 2 (omega arith))

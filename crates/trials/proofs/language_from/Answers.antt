@@ -1,6 +1,5 @@
 -- Three bytes.
 use mathlib.Core.Path.{refl}
-use borrow.Author.Rules.{rules}
 use Rattle.trials.specs.Coded.{language_from}
 use Rattle.trials.proofs.language_from.Goals as goal
 

@@ -1,6 +1,5 @@
 -- The three bytes, each at its place.
 use mathlib.Core.Path.{refl}
-use borrow.Author.Rules.{rules}
 use Rattle.trials.specs.Coded.{language_number}
 use Rattle.trials.proofs.language_number.Goals as goal
 

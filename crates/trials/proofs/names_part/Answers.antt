@@ -1,6 +1,6 @@
 -- One test for each part.
 use mathlib.Core.Path.{refl}
-use borrow.Author.{Tests.eq-eqb, Tests.ne_eqb, Rules.rules}
+use borrow.Author.{Tests.eq-eqb, Tests.ne_eqb}
 use Rattle.trials.specs.Coded.{names_part}
 use Rattle.trials.proofs.names_part.Goals as goal
 

@@ -1,5 +1,5 @@
 -- Part 5 is the answer, every other one the state's.
-use borrow.Author.{Tests.eq-eqb, Tests.ne_eqb, Rules.rules}
+use borrow.Author.{Tests.eq-eqb, Tests.ne_eqb}
 use Rattle.trials.specs.Coded.{offered_part}
 use Rattle.trials.proofs.offered_part.Goals as goal
 

@@ -1,6 +1,5 @@
 -- Byte by byte, then table by table.
 use Rattle.trials.specs.Coded.{state_from}
-use borrow.Author.Rules.{rules}
 use Rattle.trials.proofs.state_from.Goals as goal
 
 pub returns : goal.returns

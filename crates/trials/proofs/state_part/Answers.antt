@@ -1,5 +1,5 @@
 -- One arm for each part.
-use borrow.Author.{Tests.ne_eqb, Rules.rules}
+use borrow.Author.{Tests.ne_eqb}
 use Rattle.trials.specs.Coded.{state_part}
 use native.Mathlib.Omega.{arith}
 use Rattle.trials.proofs.state_part.Goals as goal

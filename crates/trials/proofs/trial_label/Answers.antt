@@ -1,5 +1,4 @@
 -- The promise of the question for the state that the bytes say.
-use borrow.Author.Rules.{rules}
 use Rattle.trials.proofs.trial_label.Goals as goal
 
 pub returns : goal.returns

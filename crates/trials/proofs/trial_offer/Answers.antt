@@ -1,5 +1,4 @@
 -- The receiver's promise for the state that the bytes say.
-use borrow.Author.Rules.{rules}
 use Rattle.trials.proofs.trial_offer.Goals as goal
 
 pub returns : goal.returns

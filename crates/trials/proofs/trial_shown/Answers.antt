@@ -4,7 +4,7 @@ use mathlib.Core.Path.{◌≡◌, refl, ap, ◌∙◌}
 use mathlib.Core.List.{List}
 use Prim.Native.Nat.{ℕ, ◌≤◌, ◌<◌}
 use lib.ListN.{length}
-use borrow.Author.{Rules.rules, Tests.le-leb, Tests.lt-leb}
+use borrow.Author.{Tests.le-leb, Tests.lt-leb}
 use Rattle.rules.specs.{Holding.put, Label.labelled, Label.label_bytes, declared.State.State}
 use Rattle.trials.specs.Coded.{state_from, shown_in}
 use Rattle.trials.proofs.trial_shown.Goals as goal

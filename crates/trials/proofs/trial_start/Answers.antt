@@ -1,5 +1,4 @@
 -- The receiver's promise, part by part.
-use borrow.Author.Rules.{rules}
 use Rattle.trials.proofs.trial_start.Goals as goal
 
 pub returns : goal.returns

@@ -1,5 +1,5 @@
 -- One arm for each part.
-use borrow.Author.{Tests.ne_eqb, Rules.rules}
+use borrow.Author.{Tests.ne_eqb}
 use native.Mathlib.Omega.{arith}
 use Rattle.trials.specs.Coded.{tuned_part}
 use Rattle.trials.proofs.tuned_part.Goals as goal
@@ -18,4 +18,5 @@ returns-in-2 c = simp (c.in-2.is, c.tuned_symbols.ensures)
 
 pub returns-in_default : goal.returns-in_default
 unfolding tuned_part
-returns-in_default c = let p = c.args.part in simp (ne_eqb p 0 (omega arith), ne_eqb p 1 (omega arith), ne_eqb p 2 (omega arith))
+returns-in_default c =
+    let p = c.args.part in simp (ne_eqb p 0 (omega arith), ne_eqb p 1 (omega arith), ne_eqb p 2 (omega arith))

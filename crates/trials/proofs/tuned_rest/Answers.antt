@@ -1,6 +1,5 @@
 -- One arm for each answer.
 use Rattle.trials.specs.Coded.{tuned_rest}
-use borrow.Author.Rules.{rules}
 use Rattle.trials.proofs.tuned_rest.Goals as goal
 
 pub returns-in-Refused : goal.returns-in-Refused

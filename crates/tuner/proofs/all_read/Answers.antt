@@ -1,7 +1,6 @@
 -- The first table that does not read right decides; where the others do, the last one does.
 use mathlib.Core.{Path.ap, Bool.not}
 use mathlib.Core.Path.{refl}
-use borrow.Author.{Rules.rules, Tests.not-false}
 use Rattle.rules.specs.declared.Table.TheVariants.{Cds, Mms, Vcm}
 use Rattle.rules.specs.Tuning.{all_read}
 use Rattle.state.proofs.Laws.{and-true}

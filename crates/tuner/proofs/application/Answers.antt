@@ -1,6 +1,5 @@
 -- Its number, with path and hidden.
 use Rattle.tuner.specs.Checks.{application_of}
-use borrow.Author.Rules.{rules}
 use Rattle.tuner.proofs.application.Goals as goal
 
 pub returns : goal.returns

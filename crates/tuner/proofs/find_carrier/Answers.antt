@@ -1,7 +1,6 @@
 -- What the record of the number's entry says, which is listed or searched for.
 use native.Mathlib.Omega.{arith}
 use mathlib.Core.Path.{refl, ap, ◌∙◌}
-use borrow.Author.Rules.{rules}
 use Rattle.rules.specs.Tuning.{plant}
 use Rattle.search.specs.Found.{carrier_found}
 use Rattle.rules.specs.declared.Table.TheVariants.{Cds}

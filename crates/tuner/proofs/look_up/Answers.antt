@@ -1,6 +1,5 @@
 -- 14, then 17, 18, and what the channel's record is tuned to.
 use mathlib.Core.Path.{sym, ◌∙◌}
-use borrow.Author.Rules.{rules}
 use Rattle.tuner.proofs.{Laws.too-high, Laws.looked_up, Stages.not_defined, Stages.channel-missing, Stages.channel-there}
 use Rattle.tuner.proofs.look_up.Goals as goal
 
@@ -8,10 +7,11 @@ pub returns-then-channel-gt4095 : goal.returns-then-channel-gt4095
 returns-then-channel-gt4095 c = too-high _ _ _ c.requires.store_value c.if-channel-gt4095.true
 
 pub is_defined-requires : goal.is_defined-requires
-is_defined-requires c = let q = c.requires in record {
-  store_value = q.store_value;
-  lists = q.all_listed.ranges_listed;
-}
+is_defined-requires c =
+    let q = c.requires in record {
+      store_value = q.store_value;
+      lists = q.all_listed.ranges_listed;
+    }
 
 pub find_channel-found-requires : goal.find_channel-found-requires
 find_channel-found-requires c =

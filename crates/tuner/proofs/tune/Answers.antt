@@ -4,7 +4,6 @@ use native.Mathlib.Omega.{arith}
 use mathlib.Core.Path.{◌≡◌, refl, sym, ◌∙◌}
 use mathlib.Core.List.{List}
 use lib.ListN.{length}
-use borrow.Author.Rules.{rules}
 use Rattle.rules.specs.{declared.Table.Table, declared.State.State}
 use Rattle.rules.proofs.Told.{tune-told}
 use Rattle.search.specs.Listing.{Lists}
@@ -26,14 +25,22 @@ look_up-requires c = record {
 }
 
 pub returns-then-refusal-eq0 : goal.returns-then-refusal-eq0
-returns-then-refusal-eq0 c = let both = tune-told _ _ _ c.look_up.ensures in record { value = both.0; result_value = both.1 }
+returns-then-refusal-eq0 c =
+    let both = tune-told _ _ _ c.look_up.ensures in
+    record { value = both.0; result_value = both.1 }
 
 pub returns-then-refusal-lt14 : goal.returns-then-refusal-lt14
-returns-then-refusal-lt14 c = let both = tune-told _ _ _ (refused-early _ _ _ _ c.check-refusal.ensures c.if-refusal-eq0.false c.if-refusal-lt14.true) in record { value = both.0; result_value = both.1 }
+returns-then-refusal-lt14 c =
+    let both = tune-told _ _ _ (refused-early _ _ _ _ c.check-refusal.ensures c.if-refusal-eq0.false c.if-refusal-lt14.true) in
+    record { value = both.0; result_value = both.1 }
 
 pub returns-then-channel-gt4095 : goal.returns-then-channel-gt4095
-returns-then-channel-gt4095 c = let both = tune-told _ _ _ (refused-high _ _ _ _ c.check-refusal.ensures c.if-refusal-lt14.false c.if-channel-gt4095.true) in record { value = both.0; result_value = both.1 }
+returns-then-channel-gt4095 c =
+    let both = tune-told _ _ _ (refused-high _ _ _ _ c.check-refusal.ensures c.if-refusal-lt14.false c.if-channel-gt4095.true) in
+    record { value = both.0; result_value = both.1 }
 
 pub returns : goal.returns
-returns c = let both = tune-told _ _ _ (refused-late _ _ _ _ c.check-refusal.ensures c.if-refusal-eq0.false c.if-refusal-lt14.false
-    c.if-channel-gt4095.false) in record { value = both.0; result_value = both.1 }
+returns c =
+    let both = tune-told _ _ _ (refused-late _ _ _ _ c.check-refusal.ensures c.if-refusal-eq0.false c.if-refusal-lt14.false
+    c.if-channel-gt4095.false) in
+    record { value = both.0; result_value = both.1 }

@@ -1,6 +1,5 @@
 -- Carrier reference 0, or without a carrier, is 19.
 use mathlib.Core.Path.{sym, ◌∙◌}
-use borrow.Author.Rules.{rules}
 use Rattle.tuner.proofs.Stages.{carrier-zero, carrier-missing, carrier-there}
 use Rattle.tuner.proofs.tune_carrier.Goals as goal
 

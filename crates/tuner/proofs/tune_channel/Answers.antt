@@ -1,5 +1,5 @@
 -- An application, or a carrier.
-use borrow.Author.{Rules.rules, Tests.eq-eqb, Tests.ne_eqb}
+use borrow.Author.{Tests.eq-eqb, Tests.ne_eqb}
 use Rattle.rules.specs.Tuning.{tune_channel}
 use Rattle.tuner.specs.Checks.{application_of}
 use Rattle.tuner.proofs.tune_channel.Goals as goal

@@ -1,6 +1,5 @@
 -- Mode reference 0, or without a record, is 21.
 use mathlib.Core.Path.{sym, ◌∙◌}
-use borrow.Author.Rules.{rules}
 use Rattle.tuner.proofs.Stages.{mode-zero, mode-missing, mode-there}
 use Rattle.tuner.proofs.tune_digital.Goals as goal
 

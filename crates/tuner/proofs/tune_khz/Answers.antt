@@ -1,6 +1,5 @@
 -- Out of reach is 20; within it, by the signal.
 use mathlib.Core.Path.{sym, ap, ◌∙◌}
-use borrow.Author.Rules.{rules}
 use Rattle.rules.specs.Tuning.{plant, tune_signal}
 use Rattle.tuner.proofs.Stages.{out_of_reach, within-reach}
 use Rattle.tuner.proofs.tune_khz.Goals as goal

@@ -2,7 +2,6 @@
 use Prim.Native.Nat.{◌/◌, ◌%◌}
 use native.Mathlib.Omega.{arith}
 use borrow.Author.Tests.{le-leb, lt-leb, eq-eqb, ne_eqb}
-use borrow.Author.Rules.{rules}
 use Rattle.rules.specs.Bytes.{byte}
 use Rattle.rules.specs.Tables.{transport_of, signal_of, channel_of, standard_fair, channel_fair}
 use Rattle.vcm.proofs.channel_fair.Goals as goal

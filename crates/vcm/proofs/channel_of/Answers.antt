@@ -1,6 +1,5 @@
 -- Field by field the bits that the rule names.
 use Rattle.rules.specs.Tables.{channel_of}
-use borrow.Author.Rules.{rules}
 use Rattle.vcm.proofs.channel_of.Goals as goal
 
 pub returns : goal.returns

@@ -1,6 +1,6 @@
 -- The tests are made in the order 8, 9, 10; then what is left is what the descriptors leave, if they are included.
 use native.Mathlib.Omega.{arith}
-use borrow.Author.{Rules.rules, Tests.eq-eqb, Tests.ne_eqb}
+use borrow.Author.{Tests.eq-eqb, Tests.ne_eqb}
 use Rattle.rules.specs.Tables.{vcm, channel_fair}
 use Rattle.fields.proofs.Laws.{part-whole, too_short, long-enough, stands_at, counted-not, taken-short, taken-zeros, taken-unfair, taken_here}
 use Rattle.fields.proofs.Laws.{step-no, step_so}

@@ -1,5 +1,5 @@
 -- Each test is a clause of the rule; the last three are for transport 1.
-use borrow.Author.{Tests.eq-eqb, Tests.ne_eqb, Rules.rules}
+use borrow.Author.{Tests.eq-eqb, Tests.ne_eqb}
 use Rattle.rules.specs.Tables.{channel_zeros, transport_of}
 use Rattle.vcm.proofs.channel_zeros.Goals as goal
 

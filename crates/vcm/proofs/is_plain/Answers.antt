@@ -2,7 +2,7 @@
 use native.Mathlib.{Omega.arith, Nat.add-zero}
 use mathlib.Core.Path.{refl, sym}
 use lib.ListN.{take}
-use borrow.Author.{Rules.rules, Tests.eq-eqb, Tests.ne_eqb}
+use borrow.Author.{Tests.eq-eqb, Tests.ne_eqb}
 use Rattle.rules.specs.Bytes.{from}
 use Rattle.rules.specs.Tables.{channel_of, channel_zeros, channel_fair, vcm}
 use Rattle.rules.proofs.Taken.{differ, both_left, both_right}

@@ -2,7 +2,7 @@
 use Prim.Native.Nat.{◌/◌, ◌%◌}
 use native.Mathlib.Omega.{arith}
 use mathlib.Core.Path.{sym, ◌∙◌}
-use borrow.Author.{Rules.rules, Tests.eq-eqb, Tests.le-leb}
+use borrow.Author.{Tests.eq-eqb, Tests.le-leb}
 use Rattle.rules.specs.Bytes.{byte}
 use Rattle.rules.specs.Tables.{transport_of, signal_of, channel_of, channel_zeros, standard_fair, channel_fair}
 use Rattle.rules.proofs.Taken.{differ}
@@ -15,7 +15,7 @@ returns-then-flags-eq0 c = λ e.
     let number = c.byte-number.ensures in
     let flags = c.byte-flags.ensures in
     rw (
-      eq-eqb (byte 0 r / 16) 0 (omega (arith, number, c.if-number-gt15.false)),
+      eq-eqb (byte 0 r / 16) 0 (omega (arith, number)),
       eq-eqb (byte 2 r / 64 % 2) 0 (omega (arith, flags, c.if-flags-ne0.false)),
       eq-eqb (byte 2 r / 16 % 2) 0 (omega (arith, flags, c.if-flags-eq0.true)),
       le-leb (byte 2 r % 16) 1 (omega (arith, flags, c.if-flags-gt1.false)),

@@ -1,6 +1,5 @@
 -- The bits that the rule names.
 use Rattle.rules.specs.Tables.{channel_of}
-use borrow.Author.Rules.{rules}
 use Rattle.vcm.proofs.number_of.Goals as goal
 
 pub returns : goal.returns

@@ -1,7 +1,6 @@
 -- The head is taken whole: 8, then 9; it has no limits.
 use native.Mathlib.Omega.{arith}
 use mathlib.Core.Path.{refl}
-use borrow.Author.Rules.{rules}
 use Rattle.rules.specs.Tables.{vcm_head}
 use Rattle.rules.specs.declared.Table.TheVariants.{Vcm}
 use Rattle.fields.proofs.Laws.{too_short, long-enough, taken-short, taken-zeros}

@@ -1,8 +1,6 @@
 -- What the whole walk leaves is what the walk over the records that are still to come leaves.
 use native.Mathlib.Omega.{arith}
-use borrow.Author.Rules.{rules}
 use Rattle.rules.specs.Tables.{vcm}
-use Rattle.fields.specs.Place.{Reaches}
 use Rattle.fields.proofs.Walks.{none, stop, end}
 use Rattle.vcm.proofs.Onward.{onward}
 use Rattle.vcm.proofs.past_channels.Goals as goal

@@ -1,9 +1,5 @@
-use native.Mathlib.Omega.{arith}
-use borrow.Author.Rules.{rules}
 use Rattle.rules.specs.Tables.{vcm}
 use Rattle.fields.specs.Place.{Reaches}
-use Rattle.fields.proofs.Walks.{none, stop, end}
-use Rattle.vcm.proofs.Onward.{onward}
 use Rattle.vcm.proofs.past_channels.Given as goal
 
 abbrev pub invariant-loop-left : goal.invariant-loop-left

@@ -1,5 +1,5 @@
 -- The transport bit decides which of the two the last three bytes say.
-use borrow.Author.{Tests.eq-eqb, Tests.ne_eqb, Rules.rules}
+use borrow.Author.{Tests.eq-eqb, Tests.ne_eqb}
 use Rattle.rules.specs.Tables.{signal_of, transport_of}
 use Rattle.vcm.proofs.signal_of.Goals as goal
 

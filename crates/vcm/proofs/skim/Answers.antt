@@ -1,9 +1,8 @@
 -- At each turn what is left of the records leaves what all of them leave.
 use native.Mathlib.Omega.{arith}
 use mathlib.Core.Path.{refl}
-use borrow.Author.{Rules.rules, Tests.not-false}
+use borrow.Author.{Rules.rules}
 use Rattle.rules.specs.Tables.{vcm}
-use Rattle.fields.specs.Place.{Reaches}
 use Rattle.fields.proofs.Walks.{begin}
 use Rattle.vcm.proofs.Onward.{onward}
 use Rattle.vcm.proofs.skim.Goals as goal

@@ -1,5 +1,4 @@
 -- The record's numbers are marked with its entry.
-use borrow.Author.Rules.{rules}
 use Rattle.search.proofs.listing.list_one.Goals as goal
 
 pub returns : goal.returns

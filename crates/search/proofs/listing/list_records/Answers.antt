@@ -1,13 +1,9 @@
 -- At both loops each number's entry, or else the one from here on, is the entry of the first match of all.
-use Prim.Native.Nat.{ℕ, ◌+◌, ◌-◌, ◌*◌, ◌≤◌}
 use native.Mathlib.{Omega.arith, Nat.sub-zero}
-use mathlib.Core.Path.{◌≡◌, refl, ◌∙◌}
-use mathlib.Core.Logic.{⊎_elim}
-use lib.ListN.{length}
-use borrow.Author.Rules.{rules}
+use mathlib.Core.Path.{refl, ◌∙◌}
 use Rattle.fields.proofs.Laws.{at-got, at-no}
 use Rattle.search.proofs.{Sections.one_of, Sections.behind-all, Sections.live-place, Entries.fits, Entries.small, Entries.never}
-use Rattle.search.proofs.Listed.{Before, Within, begin, enter, leave, lists, list_on}
+use Rattle.search.proofs.Listed.{begin, enter, leave, lists, list_on}
 use Rattle.search.proofs.listing.list_records.Goals as goal
 use Rattle.search.proofs.listing.list_records.Goals.{else-loop-k-test, then-loop-k-test+in_default}
 
@@ -45,7 +41,7 @@ loop-i-preserved c =
     let l = c.loop-k.invariant in (
       l.0 ∙ c.loop-i.invariant.0,
       λ x. elim c.loop-k-test.branch [
-        else-loop-k-test w ↦ leave _ _ _ (l.1 x) (omega arith)
+        | else-loop-k-test w ↦ leave _ _ _ (l.1 x) (omega arith)
         | then-loop-k-test+in_default w ↦ absurd (never _ _ _ _ (l.1 x).ahead (omega arith) (at-no _ _ _ w.past_record.ensures _ w.in_default.is))
       ],
     )

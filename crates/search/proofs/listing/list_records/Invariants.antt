@@ -1,12 +1,7 @@
 use Prim.Native.Nat.{ℕ, ◌+◌, ◌-◌, ◌*◌, ◌≤◌}
-use native.Mathlib.{Omega.arith, Nat.sub-zero}
-use mathlib.Core.Path.{◌≡◌, refl, ◌∙◌}
-use mathlib.Core.Logic.{⊎_elim}
+use mathlib.Core.Path.{◌≡◌}
 use lib.ListN.{length}
-use borrow.Author.Rules.{rules}
-use Rattle.fields.proofs.Laws.{at-got, at-no}
-use Rattle.search.proofs.{Sections.one_of, Sections.behind-all, Sections.live-place, Entries.fits, Entries.small, Entries.never}
-use Rattle.search.proofs.Listed.{Before, Within, begin, enter, leave, lists, list_on}
+use Rattle.search.proofs.Listed.{Before, Within}
 use Rattle.search.proofs.listing.list_records.Given as goal
 
 abbrev pub invariant-loop-k : goal.invariant-loop-k

@@ -1,9 +1,6 @@
 -- After each turn the numbers below are marked.
-use Prim.Native.Nat.{◌-◌, ◌≤◌}
 use native.Mathlib.Omega.{arith}
 use mathlib.Core.Path.{◌≡◌}
-use borrow.Author.Rules.{rules}
-use Rattle.search.specs.Listing.{Marked}
 use Rattle.search.proofs.Marks.{none-marked, more-marked}
 use Rattle.search.proofs.listing.mark.Goals as goal
 

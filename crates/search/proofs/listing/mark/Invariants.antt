@@ -1,9 +1,5 @@
 use Prim.Native.Nat.{◌-◌, ◌≤◌}
-use native.Mathlib.Omega.{arith}
-use mathlib.Core.Path.{◌≡◌}
-use borrow.Author.Rules.{rules}
 use Rattle.search.specs.Listing.{Marked}
-use Rattle.search.proofs.Marks.{none-marked, more-marked}
 use Rattle.search.proofs.listing.mark.Given as goal
 
 abbrev pub invariant-loop-i : goal.invariant-loop-i

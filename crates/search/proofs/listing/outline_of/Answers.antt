@@ -1,6 +1,5 @@
 -- Each table's room tells its own.
 use mathlib.Core.Path.{ap, ◌∙◌}
-use borrow.Author.Rules.{rules}
 use Rattle.search.specs.Entries.{outline_in}
 use Rattle.search.proofs.listing.outline_of.Goals as goal
 

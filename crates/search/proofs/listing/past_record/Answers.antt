@@ -2,7 +2,6 @@
 use Prim.Native.Nat.{ℕ, ◌+◌, ◌≤◌}
 use native.Mathlib.Omega.{arith}
 use mathlib.Core.{Path.◌≡◌, Path.sym, Path.subst, List.List}
-use borrow.Author.Rules.{rules}
 use Rattle.rules.specs.{Bytes.from, Descriptors.counted, Layout.extent, declared.Table.Table}
 use Rattle.rules.specs.Tables.{cds, mms, vcm, dcm, ntt}
 use Rattle.rules.specs.declared.Table.TheVariants as table

@@ -1,7 +1,6 @@
 -- A single revision descriptor by its body, or any list.
 use native.Mathlib.Omega.{arith}
 use mathlib.Core.Path.{sym, ap, ◌∙◌}
-use borrow.Author.Rules.{rules}
 use Rattle.rules.specs.Bytes.{from}
 use Rattle.section.specs.Closes.{closed_as}
 use Rattle.section.proofs.Lists.{close-lone}

@@ -1,13 +1,10 @@
 -- What is met so far, with what the list from here on has, tells what the whole list tells.
-use Prim.Native.Nat.{◌-◌}
 use native.Mathlib.Omega.{arith}
-use mathlib.Core.Path.{◌≡◌, sym, ap, ◌∙◌}
-use lib.ListN.{length}
-use borrow.Author.Rules.{rules}
-use Rattle.rules.specs.Bytes.{byte, from}
-use Rattle.section.specs.Closes.{closed_as, closed_of}
+use mathlib.Core.Path.{sym, ap, ◌∙◌}
+use Rattle.rules.specs.Bytes.{byte}
+use Rattle.section.specs.Closes.{closed_as}
 use Rattle.fields.proofs.Laws.{at-no}
-use Rattle.section.proofs.Lists.{here, closed_with, close-begin, close-end, close-no, close-pass, close-seen}
+use Rattle.section.proofs.Lists.{here, close-begin, close-end, close-no, close-pass, close-seen}
 use Rattle.section.proofs.closing.close_list.Goals as goal
 
 pub loop-at-smaller-then-b-at : goal.loop-at-smaller-then-b-at
@@ -39,10 +36,12 @@ pub loop-at-init : goal.loop-at-init
 loop-at-init c = close-begin _ _
 
 pub overflow_add-at : goal.overflow_add-at
-overflow_add-at c = let h = here _ _ _ c.past_one-next.ensures _ c.in-At.is in omega arith
+overflow_add-at c =
+    let h = here _ _ _ c.past_one-next.ensures _ c.in-At.is in omega arith
 
 pub loop-at-smaller : goal.loop-at-smaller
-loop-at-smaller c = let h = here _ _ _ c.past_one-next.ensures _ c.in-At.is in omega arith
+loop-at-smaller c =
+    let h = here _ _ _ c.past_one-next.ensures _ c.in-At.is in omega arith
 
 pub returns : goal.returns
 returns c = c.judged.ensures ∙ ap closed_as (sym (c.loop-at.invariant ∙ close-end _ _ _ (omega arith)))

@@ -1,12 +1,9 @@
 use Prim.Native.Nat.{◌-◌}
-use native.Mathlib.Omega.{arith}
-use mathlib.Core.Path.{◌≡◌, sym, ap, ◌∙◌}
+use mathlib.Core.Path.{◌≡◌}
 use lib.ListN.{length}
-use borrow.Author.Rules.{rules}
-use Rattle.rules.specs.Bytes.{byte, from}
-use Rattle.section.specs.Closes.{closed_as, closed_of}
-use Rattle.fields.proofs.Laws.{at-no}
-use Rattle.section.proofs.Lists.{here, closed_with, close-begin, close-end, close-no, close-pass, close-seen}
+use Rattle.rules.specs.Bytes.{from}
+use Rattle.section.specs.Closes.{closed_of}
+use Rattle.section.proofs.Lists.{closed_with}
 use Rattle.section.proofs.closing.close_list.Given as goal
 
 abbrev pub invariant-loop-at : goal.invariant-loop-at

@@ -1,12 +1,8 @@
 -- What the search from the start finds is what the search from here on finds.
-use Prim.Native.Nat.{◌-◌}
 use native.Mathlib.Omega.{arith}
-use mathlib.Core.Path.{◌≡◌, refl, sym, ◌∙◌}
-use mathlib.Core.Bool.{true}
-use lib.ListN.{length}
+use mathlib.Core.Path.{refl, sym, ◌∙◌}
 use borrow.Author.Rules.{rules}
-use Rattle.rules.specs.{Bytes.byte, Bytes.from, Descriptors.closing}
-use Rattle.section.specs.Closes.{filled, first_in}
+use Rattle.rules.specs.{Bytes.byte}
 use Rattle.fields.proofs.Laws.{at-no}
 use Rattle.section.proofs.Lists.{here, first-end, first-never, first-here, first-pass, listed-on}
 use Rattle.section.proofs.closing.first_of.Goals as goal
@@ -34,10 +30,12 @@ pub loop-at-init : goal.loop-at-init
 loop-at-init c = (search rules, refl)
 
 pub overflow_add-result : goal.overflow_add-result
-overflow_add-result c = let h = here _ _ _ c.past_one-next.ensures _ c.in-At.is in omega arith
+overflow_add-result c =
+    let h = here _ _ _ c.past_one-next.ensures _ c.in-At.is in omega arith
 
 pub loop-at-smaller : goal.loop-at-smaller
-loop-at-smaller c = let h = here _ _ _ c.past_one-next.ensures _ c.in-At.is in omega arith
+loop-at-smaller c =
+    let h = here _ _ _ c.past_one-next.ensures _ c.in-At.is in omega arith
 
 pub returns : goal.returns
 returns c = sym (c.loop-at.invariant.1 ∙ first-end _ _ _ (omega arith))

@@ -1,13 +1,9 @@
 use Prim.Native.Nat.{◌-◌}
-use native.Mathlib.Omega.{arith}
-use mathlib.Core.Path.{◌≡◌, refl, sym, ◌∙◌}
+use mathlib.Core.Path.{◌≡◌}
 use mathlib.Core.Bool.{true}
 use lib.ListN.{length}
-use borrow.Author.Rules.{rules}
-use Rattle.rules.specs.{Bytes.byte, Bytes.from, Descriptors.closing}
+use Rattle.rules.specs.{Bytes.from, Descriptors.closing}
 use Rattle.section.specs.Closes.{filled, first_in}
-use Rattle.fields.proofs.Laws.{at-no}
-use Rattle.section.proofs.Lists.{here, first-end, first-never, first-here, first-pass, listed-on}
 use Rattle.section.proofs.closing.first_of.Given as goal
 
 abbrev pub invariant-loop-at : goal.invariant-loop-at

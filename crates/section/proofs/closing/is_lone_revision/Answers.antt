@@ -3,7 +3,7 @@ use Prim.Native.Nat.{◌+◌, ◌-◌}
 use native.Mathlib.Omega.{arith}
 use mathlib.Core.Path.{sym}
 use lib.ListN.{length, get_or}
-use borrow.Author.{Rules.rules, Tests.eqb-true}
+use borrow.Author.{Tests.eqb-true}
 use Rattle.rules.proofs.Taken.{differ}
 use Rattle.fields.proofs.Laws.{long-enough}
 use Rattle.section.proofs.closing.is_lone_revision.Goals as goal

@@ -1,5 +1,4 @@
 -- None or several are refused as 11 whatever they say; one is judged by its body.
-use borrow.Author.Rules.{rules}
 use Rattle.rules.specs.Section.{revision}
 use Rattle.section.specs.Closes.{closed_as, seen_of}
 use Rattle.section.proofs.closing.judged.Goals as goal

@@ -1,5 +1,5 @@
 -- Each test is a clause of refusal 11.
-use borrow.Author.{Tests.le-leb, Tests.lt-leb, Rules.rules}
+use borrow.Author.{Tests.le-leb, Tests.lt-leb}
 use Rattle.rules.specs.{Section.revision, Bytes.unless}
 use Rattle.section.specs.Closes.{closed_as}
 use Rattle.section.proofs.closing.revised.Goals as goal

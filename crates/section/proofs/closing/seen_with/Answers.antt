@@ -1,5 +1,4 @@
 -- Of a second revision descriptor only that it is there counts.
-use borrow.Author.Rules.{rules}
 use Rattle.section.specs.Closes.{seen_with}
 use Rattle.section.proofs.closing.seen_with.Goals as goal
 

@@ -1,7 +1,6 @@
 -- 8 where the byte of medium and subtype is not there, then 7, then the header whole.
 use native.Mathlib.Omega.{arith}
 use mathlib.Core.Path.{sym, ap, ◌∙◌}
-use borrow.Author.Rules.{rules}
 use Rattle.section.specs.Reads.{header_as}
 use Rattle.section.proofs.Whole.{header-cut, header-unnamed, header-named}
 use Rattle.section.proofs.header.header_of.Goals as goal

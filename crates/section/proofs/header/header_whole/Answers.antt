@@ -1,6 +1,5 @@
 -- Each test is a refusal of the rule, in its order.
 use native.Mathlib.Omega.{arith}
-use borrow.Author.Rules.{rules}
 use Rattle.section.proofs.Headers.{whole-short, whole-high, whole-protocol, whole-right}
 use Rattle.section.proofs.header.header_whole.Goals as goal
 

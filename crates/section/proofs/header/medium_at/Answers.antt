@@ -1,6 +1,5 @@
 -- The table number decides where the byte stands.
 use mathlib.Core.Path.{sym, ◌∙◌}
-use borrow.Author.Rules.{rules}
 use Rattle.section.proofs.Headers.{medium-low, medium-names, medium-other}
 use Rattle.section.proofs.header.medium_at.Goals as goal
 
