@@ -78,7 +78,7 @@ rests_on() {
 
 # stands MADE CRATE: the file MADE is there, and nothing that it was made from has changed since
 stands() {
-    local crate part from=(crates.txt)
+    local crate part from=(crates.txt "$kit/KIT-ID")
     [ -e "$1" ] || return
     while read -r crate; do
         for part in src specs proofs; do
