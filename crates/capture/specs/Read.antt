@@ -1,5 +1,6 @@
 -- What the loop makes of what its reads gave. Of standard input the contract of a read says nothing of the bytes that come, and of another reader
--- nothing that it says is used; so of what was given a contract here says that there is some; by it all else is decided: the answer, every byte of the store and every byte of the buffer.
+-- nothing that it says is used; so of what was given a contract here says that there is some. By it all else is decided: the answer, every byte of
+-- the store and every byte of the buffer.
 use Rattle.std.specs.Prelude.{◌≡◌, ℕ, zero, suc, min, ℤ, pos, negsuc, Bool, true, false, cond, List, [], ◌∷◌, length, take, eqb, int_lt}
 use Rattle.rules.specs.{Holding.put, Feeding.Intake, Feeding.begin, Feeding.feed, Feeding.finish}
 use Rattle.stream.specs.{declared.Tally.Tally, declared.Absorbed.Absorbed, Tallied.intake_of}
