@@ -34,6 +34,8 @@ WRONG = re.compile(r"wrong ([a-z0-9_]+): ([^:]+(?:::[^:]+)*): (.+)")
 ROW = re.compile(r"(\w+)( staticlib)?\s*:(.*)")
 ERROR = re.compile(r"^(?:\./)?(\S+?):(\d+):\d+: error: `([^`]+)`: (.*)$")
 FOLLOWS = re.compile(r"`[^`]+` (?:was not admitted|cannot be unfolded because it was not admitted)|.*(?:is not in scope|has no field|has no `)")
+OPEN = re.compile(r"note: src/\S+: it is not proved that ")
+VERDICT = re.compile(r"fn (\S+): (?:proved|not proved|no proof)")
 PUBLIC = re.compile(r'^pub (?:extern "C" )?fn (\w+)', re.MULTILINE)
 NAMED = re.compile(r"(\w+/\w+) (\S+): (.+)")
 MODULE = re.compile(r"^pub mod (\w+);", re.MULTILINE)
@@ -204,16 +206,24 @@ def refusals(said):
     return [(it[1], int(it[2]), it[3]) for it in errors if it and not FOLLOWS.match(it[4])]
 
 
+def with_open_goals(said):
+    """The functions of which the prover names a goal that no answer is for and that its own search does not prove; the verdict on one stands behind its goals."""
+    found, named = set(), False
+    for line in said.splitlines():
+        verdict = VERDICT.match(line)
+        if verdict and named:
+            found.add(verdict[1])
+        named = not verdict and (named or bool(OPEN.match(line)))
+    return found
+
+
 def refused_by_function(crate, function, found, said):
     """A part of the function's own proof: an answer to one of its goals, or a goal that has no answer and that the prover's own search does not prove."""
     path = function.replace("::", "/")
     name = path.rsplit("/", 1)[-1]
     folder = path[: len(path) - len(name)]
     files = {f"proofs/{folder}{mark}{name}/{file}.antt" for mark in ("", "+") for file in ("Answers", "Proof")}
-    unproved = f"fn {crate}::{function}: no proof: "
-    return any(file in files for file, _, _ in found) or any(
-        line.startswith(unproved) and "did not prove `" in line for line in said.splitlines()
-    )
+    return any(file in files for file, _, _ in found) or f"{crate}::{function}" in with_open_goals(said)
 
 
 def refused_by_theorem(theorem, found, crate, texts):

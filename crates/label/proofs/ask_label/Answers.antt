@@ -1,4 +1,4 @@
--- The checks, then the look_up; a refusal of the checks in its place beside 14.
+-- The checks, then the look-up; a refusal of the checks in its place beside 14.
 use mathlib.Core.Path.{sym, ◌∙◌}
 use Rattle.label.proofs.Laws.{refused-early, refused-high, refused-late, label-told}
 use Rattle.label.proofs.ask_label.Goals as goal

@@ -32,7 +32,7 @@ returns g c =
     let head = c.args.head.now in
     let got = some-pieces c.gather-gathered.ensures.1 in
     let all = all_shown head c.map_of.result c.gather-gathered.result.tally _ c.map_of.ensures got p.wrote p.wrote_2 in record {
-      shown = with_rest lineup _ _ head _ c.if-head-lt2.false c.requires.head_len_bound all;
+      shown = with_rest lineup _ _ head _ (omega arith) c.requires.head_len_bound all;
       counts = p.counts;
       counts_2 = p.counts_2;
     }

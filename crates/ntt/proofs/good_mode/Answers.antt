@@ -1,4 +1,5 @@
 -- One test for each kind of mode, in the order of the rule.
+use native.Mathlib.Omega.{arith}
 use borrow.Author.{Tests.le-leb, Tests.lt-leb, Tests.eq-eqb, Tests.ne_eqb}
 use Rattle.rules.specs.Text.{is_wide, is_long, good_mode}
 use Rattle.ntt.proofs.good_mode.Goals as goal
@@ -24,7 +25,7 @@ returns-then-mode-ne63 c = simp (
   c.if-is_page.false,
   ← c.is_single.ensures,
   c.if-is_single.false,
-  lt-leb _ _ c.if-mode-ge160.false,
+  lt-leb 160 c.args.mode (omega arith),
   ne_eqb _ _ c.if-mode-ne63.true,
 )
 

@@ -7,7 +7,7 @@ pub returns-then-s-eq0 : goal.returns-then-s-eq0
 returns-then-s-eq0 c = text-empty _ c.if-s-eq0.true
 
 pub loop-at-init : goal.loop-at-init
-loop-at-init c = text-begin _ c.if-s-eq0.false
+loop-at-init c = text-begin _ (λ e. omega (arith, e))
 
 pub returns-then-rest-size : goal.returns-then-rest-size
 returns-then-rest-size c =
@@ -16,12 +16,12 @@ returns-then-rest-size c =
 -- a block that is there is at least one byte, so the place moves on
 pub loop-at-smaller : goal.loop-at-smaller
 loop-at-smaller c =
-    omega (arith, c.if-rest-size.false, c.block_size-size.ensures.result_nonzero)
+    omega (arith, c.block_size-size.ensures.result_nonzero)
 
 pub loop-at-preserved : goal.loop-at-preserved
 loop-at-preserved c =
     let size = c.block_size-size.ensures in
-    text-on c.loop-at.invariant c.loop-at-test.true (tail-whole _ _) size.value c.if-rest-size.false (cc) size.result_nonzero.0 c.if-good_mode.true
+    text-on c.loop-at.invariant c.loop-at-test.true (tail-whole _ _) size.value (omega arith) (cc) size.result_nonzero.0 c.if-good_mode.true
 
 pub returns-else-good_mode : goal.returns-else-good_mode
 returns-else-good_mode c =

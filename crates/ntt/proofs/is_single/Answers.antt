@@ -1,4 +1,5 @@
 -- The two tests are the two of the row.
+use native.Mathlib.Omega.{arith}
 use borrow.Author.Tests.{le-leb, lt-leb}
 use Rattle.rules.specs.Text.{is_single}
 use Rattle.ntt.proofs.is_single.Goals as goal
@@ -9,4 +10,4 @@ returns-then-mode-lt64 c = rw (lt-leb _ _ c.if-mode-lt64.true)
 
 pub returns : goal.returns
 unfolding is_single
-returns c = rw (le-leb _ _ c.if-mode-lt64.false)
+returns c = rw (le-leb 64 c.args.mode (omega arith))

@@ -1,4 +1,4 @@
--- The look_up is the rule's tuning, its line is written behind the others, and it is one at most.
+-- The look-up is the rule's tuning, its line is written behind the others, and it is one at most.
 use native.Mathlib.Omega.{arith}
 use Rattle.printout.specs.Lines.{box_of}
 use Rattle.printout.proofs.Laws.{added, one_line}

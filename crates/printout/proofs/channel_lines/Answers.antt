@@ -1,4 +1,5 @@
 -- Where the checks are passed the four tables are listed, and the lines are those of the listings; else there are none.
+use native.Mathlib.Omega.{arith}
 use mathlib.Core.Path.{refl, sym, ◌∙◌}
 use borrow.Author.Rules.{rules}
 use Rattle.rules.specs.declared.Table.TheVariants.{Cds, Mms, Vcm, Dcm}
@@ -13,25 +14,25 @@ returns-then-check-ne0 c =
 
 pub list_records-requires : goal.list_records-requires
 list_records-requires c = record {
-  live = searchable _ _ (sym c.check.ensures ∙ c.if-check-ne0.false) Dcm refl;
+  live = searchable _ _ (sym c.check.ensures ∙ omega arith) Dcm refl;
   blank = blank 4096 _ refl;
 }
 
 pub list_records-requires-2 : goal.list_records-requires-2
 list_records-requires-2 c = record {
-  live = searchable _ _ (sym c.check.ensures ∙ c.if-check-ne0.false) Vcm refl;
+  live = searchable _ _ (sym c.check.ensures ∙ omega arith) Vcm refl;
   blank = blank 4096 _ refl;
 }
 
 pub list_records-requires-3 : goal.list_records-requires-3
 list_records-requires-3 c = record {
-  live = searchable _ _ (sym c.check.ensures ∙ c.if-check-ne0.false) Cds refl;
+  live = searchable _ _ (sym c.check.ensures ∙ omega arith) Cds refl;
   blank = blank 256 _ refl;
 }
 
 pub list_records-requires-4 : goal.list_records-requires-4
 list_records-requires-4 c = record {
-  live = searchable _ _ (sym c.check.ensures ∙ c.if-check-ne0.false) Mms refl;
+  live = searchable _ _ (sym c.check.ensures ∙ omega arith) Mms refl;
   blank = blank 256 _ refl;
 }
 

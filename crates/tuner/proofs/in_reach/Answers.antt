@@ -1,4 +1,5 @@
 -- The two ends.
+use native.Mathlib.Omega.{arith}
 use borrow.Author.Tests.{le-leb, lt-leb}
 use Rattle.rules.specs.Tuning.{in_reach}
 use Rattle.tuner.proofs.in_reach.Goals as goal
@@ -9,4 +10,4 @@ returns-then-khz-lt54000 c = simp (lt-leb _ _ c.if-khz-lt54000.true)
 
 pub returns : goal.returns
 unfolding in_reach
-returns c = simp (le-leb _ _ c.if-khz-lt54000.false)
+returns c = simp (le-leb 54000 c.args.khz (omega arith))

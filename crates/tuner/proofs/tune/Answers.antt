@@ -1,4 +1,4 @@
--- The checks, then the look_up, with nothing listed; a refusal of the checks in its place beside 14.
+-- The checks, then the look-up, with nothing listed; a refusal of the checks in its place beside 14.
 use Prim.Native.Nat.{ℕ}
 use native.Mathlib.Omega.{arith}
 use mathlib.Core.Path.{◌≡◌, refl, sym, ◌∙◌}
