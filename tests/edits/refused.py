@@ -218,12 +218,16 @@ def with_open_goals(said):
 
 
 def refused_by_function(crate, function, found, said):
-    """A part of the function's own proof: an answer to one of its goals, or a goal that has no answer and that the prover's own search does not prove."""
+    """A part of the function's own proof: an answer to one of its goals, or a goal that has no answer and that the prover's own search does not prove. Where
+    an answer names something that isn't there, a goal may lack its answer for that alone, and doesn't count: names.txt brings the names along."""
     path = function.replace("::", "/")
     name = path.rsplit("/", 1)[-1]
     folder = path[: len(path) - len(name)]
     files = {f"proofs/{folder}{mark}{name}/{file}.antt" for mark in ("", "+") for file in ("Answers", "Proof")}
-    return any(file in files for file, _, _ in found) or f"{crate}::{function}" in with_open_goals(said)
+    if any(file in files for file, _, _ in found):
+        return True
+    errors = [ERROR.match(line) for line in said.splitlines()]
+    return f"{crate}::{function}" in with_open_goals(said) and not any(it and it[1] in files for it in errors)
 
 
 def refused_by_theorem(theorem, found, crate, texts):
