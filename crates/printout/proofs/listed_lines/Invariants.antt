@@ -6,7 +6,8 @@ use Rattle.printout.proofs.listed_lines.Given as goal
 
 abbrev pub invariant-loop-number : goal.invariant-loop-number
 invariant-loop-number l =
-    (l.number ≤ 4096) × (length l.out ≡ length l.initial.out) × Below (longest l.labels) (line_of l.labels (box_of l.state l.store)) l.number l.initial.out l.out l.lines
+    (l.number ≤ 4096) × (length l.out ≡ length l.initial.out)
+    × Below (longest l.labels) (line_of l.labels (box_of l.state l.store)) l.number l.initial.out l.out l.lines
 
 abbrev pub decreases-loop-number : goal.decreases-loop-number
 decreases-loop-number l = 4096 - l.number

@@ -19,5 +19,6 @@ pub returns : goal.returns
 unfolding box_of
 returns c =
     let b = box_of c.args.state c.args.store.now in
-    short (some-label b c.args.number c.requires.tuned_value c.lines_of.ensures c.if-lines_of-eq0.false c.label-label.ensures.result_value c.label_line.ensures.1)
+    short (some-label b c.args.number c.requires.tuned_value c.lines_of.ensures c.if-lines_of-eq0.false
+    c.label-label.ensures.result_value c.label_line.ensures.1)
     c.label_line.ensures.0

@@ -7,7 +7,8 @@ use Rattle.search.proofs.carrier_entry.Given as goal
 
 abbrev pub invariant-loop-k : goal.invariant-loop-k
 invariant-loop-k l =
-    Inside l.s l.store Cds (is_carrier l.number) 0 l.start l.i (l.k-end - l.k) l.index l.b l.at (entry_of l.s l.store Cds l.number) × (l.index ≤ 65535 + 255 * l.k)
+    Inside l.s l.store Cds (is_carrier l.number) 0 l.start l.i (l.k-end - l.k) l.index l.b l.at (entry_of l.s l.store Cds l.number)
+    × (l.index ≤ 65535 + 255 * l.k)
 
 abbrev pub decreases-loop-k : goal.decreases-loop-k
 decreases-loop-k l = l.k-end - l.k

@@ -7,7 +7,8 @@ use Rattle.search.proofs.name_entry.Given as goal
 
 abbrev pub invariant-loop-k : goal.invariant-loop-k
 invariant-loop-k l =
-    Inside l.s l.store Ntt (is_name l.application l.number) l.walk.included l.start l.i (l.k-end - l.k) l.walk.first l.b l.at (entry_by l.s l.store Ntt (is_name l.application l.number))
+    Inside l.s l.store Ntt (is_name l.application l.number) l.walk.included l.start l.i (l.k-end - l.k) l.walk.first l.b l.at
+    (entry_by l.s l.store Ntt (is_name l.application l.number))
 
 abbrev pub decreases-loop-k : goal.decreases-loop-k
 decreases-loop-k l = l.k-end - l.k
