@@ -10,7 +10,8 @@ overflow_mul-result c = omega (arith, product c.args.k c.in_khz-spacing.result (
 
 pub overflow_add-result : goal.overflow_add-result
 unfolding carrier_khz
-overflow_add-result c = omega (arith, product c.args.k c.in_khz-spacing.result (omega arith) c.in_khz-spacing.ensures.upper_bound, c.in_khz-first.ensures.upper_bound)
+overflow_add-result c =
+    omega (arith, product c.args.k c.in_khz-spacing.result (omega arith) c.in_khz-spacing.ensures.upper_bound, c.in_khz-first.ensures.upper_bound)
 
 pub returns : goal.returns
 unfolding carrier_khz

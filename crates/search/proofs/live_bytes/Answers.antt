@@ -8,7 +8,9 @@ use Rattle.search.proofs.live_bytes.Goals as goal
 
 pub returns-then-section-lt4 : goal.returns-then-section-lt4
 unfolding without_crc
-returns-then-section-lt4 c = let none : length c.live_section-section.result.now - 4 ≡ 0 = omega arith in rw (← c.live_section-section.ensures.result_value, none)
+returns-then-section-lt4 c =
+    let none : length c.live_section-section.result.now - 4 ≡ 0 = omega arith in
+    rw (← c.live_section-section.ensures.result_value, none)
 
 pub slice_bounds-result-length : goal.slice_bounds-result-length
 unfolding without_crc

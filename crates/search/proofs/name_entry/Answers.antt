@@ -53,7 +53,8 @@ unfolding ntt
 loop-i-preserved c =
     elim c.loop-k-test.branch [
       | else-loop-k-test w ↦ go-out _ _ _ _ c.loop-k.invariant (omega arith)
-      | then-loop-k-test+in_default w ↦ absurd (never _ _ _ _ c.loop-k.invariant (omega arith) (at-no _ _ _ (rw w.name_size.ensures.value at w.past_counted.ensures) _ w.in_default.is))
+      | then-loop-k-test+in_default w ↦ absurd (never _ _ _ _ c.loop-k.invariant (omega arith)
+          (at-no _ _ _ (rw w.name_size.ensures.value at w.past_counted.ensures) _ w.in_default.is))
     ]
 
 pub returns : goal.returns

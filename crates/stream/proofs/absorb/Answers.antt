@@ -27,9 +27,14 @@ returns c =
     let p = c.requires in
     let n = length-take-le (a.kept + a.got) a.buffer.now p.got_in_bounds in
     let within : f.result.used ≤ a.kept + a.got = omega (arith, n, f.ensures.used_in_bounds.0) in record {
-      buffer_after = absorbed a.t _ a.store.now _ a.buffer.now _ a.kept a.got _ _ p.got_in_bounds f.ensures.used_after within k.ensures.value k.ensures.buffer_after;
-      buffer_after_2 = rest-kept a.t _ a.store.now _ a.buffer.now _ a.kept a.got _ _ p.got_in_bounds f.ensures.used_after within k.ensures.value k.ensures.buffer_after;
-      grew = record { sections = omega (arith, n, p.got_in_bounds, f.ensures.grew.sections); refused = omega (arith, n, p.got_in_bounds, f.ensures.grew.refused) };
+      buffer_after =
+          absorbed a.t _ a.store.now _ a.buffer.now _ a.kept a.got _ _ p.got_in_bounds f.ensures.used_after within k.ensures.value k.ensures.buffer_after;
+      buffer_after_2 =
+          rest-kept a.t _ a.store.now _ a.buffer.now _ a.kept a.got _ _ p.got_in_bounds f.ensures.used_after within k.ensures.value k.ensures.buffer_after;
+      grew = record {
+        sections = omega (arith, n, p.got_in_bounds, f.ensures.grew.sections);
+        refused = omega (arith, n, p.got_in_bounds, f.ensures.grew.refused);
+      };
       kept_value = (
         rest-size a.t _ a.store.now _ a.buffer.now _ a.kept a.got _ _ p.got_in_bounds f.ensures.used_after within k.ensures.value k.ensures.buffer_after,
         omega (arith, n, k.ensures.value, f.ensures.used_in_bounds.1),
