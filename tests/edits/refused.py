@@ -7,9 +7,9 @@ An edit of crates/NAME/must-fail holds one or more wrong answers, each under a l
 
 and followed by its replacements. rt ci asks that the prover refuses the edited crate as a whole, and says what it refused first. Here WHERE says
 what must have refused this answer: of code a function (or several), whose own proof must have a part that is no longer a proof; of the rules
-a theorem, or a part of one as THEOREM.PART. A declaration that was refused only because it rests on one that was refused doesn't
-count, and nor does one that names something which isn't there (names.txt beside this file says which names of a proof a wrong answer changes). Of one
-edit no two answers name the same place.
+a theorem, or a part of one as THEOREM.PART, or their one function Refusal::number. A declaration that was refused only because it rests on
+one that was refused doesn't count, and nor does one that names something which isn't there (names.txt beside this file says which names of a
+proof a wrong answer changes). Of one edit no two answers name the same place.
 
 It also holds docs/PROMISES.md to the tree: every label is named there, one of code under a function of its crate, and how many there are;
 and every public function, those of public modules too, has its own paragraph there, two wrong answers that it refuses itself, and its theorem
@@ -36,7 +36,7 @@ ERROR = re.compile(r"^(?:\./)?(\S+?):(\d+):\d+: error: `([^`]+)`: (.*)$")
 FOLLOWS = re.compile(r"`[^`]+` (?:was not admitted|cannot be unfolded because it was not admitted)|.*(?:is not in scope|has no field|has no `)")
 OPEN = re.compile(r"note: src/\S+: it is not proved that ")
 VERDICT = re.compile(r"fn (\S+): (?:proved|not proved|no proof)")
-PUBLIC = re.compile(r'^pub (?:extern "C" )?fn (\w+)', re.MULTILINE)
+PUBLIC = re.compile(r'^(?:    )?pub (?:extern "C" )?fn (\w+)', re.MULTILINE)
 NAMED = re.compile(r"(\w+/\w+) (\S+): (.+)")
 MODULE = re.compile(r"^pub mod (\w+);", re.MULTILINE)
 PARTS = ("src", "specs", "proofs")
@@ -272,7 +272,7 @@ def each_refused(tree, edits):
                     faults.append(f"{crate}: two wrong answers are called {label}")
                 labels.append((crate, label))
                 for place in places:
-                    if crate == "rules":
+                    if crate == "rules" and "::" not in place:
                         refused = refused_by_theorem(place, found, tree.folder(crate), texts)
                     else:
                         refused = refused_by_function(crate, place, found, said)
@@ -285,7 +285,7 @@ def each_refused(tree, edits):
 
 
 def public_functions(source):
-    """Those of a crate's lib.rt and of its public modules."""
+    """Those of a crate's lib.rt and of its public modules, those of its types too."""
     text = source.read_text(encoding="utf-8")
     modules = [source.parent / f"{module}.rt" for module in MODULE.findall(text)]
     return PUBLIC.findall("\n".join([text] + [module.read_text(encoding="utf-8") for module in modules]))

@@ -19,7 +19,8 @@ pub const PIECE: usize = 65536;
 // sections are counted.
 const READS: u64 = 140737488355328;
 
-// What a read gave: no bytes at the end of the input, and where it failed.
+// What a read gave: no bytes at the end of the input, and where it failed. (The flag beside the count, here and below, makes no `Result`: what
+// is held at the end counts, whether or not a read that failed was the end; and so a read that fails is one of no bytes.)
 #[derive(Clone, Copy)]
 pub struct Got {
     pub count: usize,
@@ -78,8 +79,7 @@ pub fn follow<R: Read>(
         tally: start,
         kept: 0,
     };
-    let mut reads = READS;
-    while reads > 0 {
+    for made in 0..READS {
         let tally = held.tally;
         let got = refill(reader, buffer, held.kept);
         if got.count == 0 {
@@ -89,7 +89,6 @@ pub fn follow<R: Read>(
             };
         }
         held = stream::absorb(tally, store, buffer, held.kept, got.count);
-        reads -= 1;
     }
     Followed {
         held,

@@ -2,15 +2,15 @@
 -- the register, four zero bytes further on.
 use mathlib.Core.Path.{◌≡◌, refl, sym, ap, ap₂, ◌∙◌}
 use mathlib.Core.List.{List, [], ◌∷◌}
-use Prim.Native.Nat.{ℕ, zero, suc, ◌+◌, ◌*◌, ◌/◌, ◌%◌, ◌^◌, ◌≤◌, ◌<◌}
+use Prim.Native.Nat.{ℕ, zero, suc, ◌+◌, ◌-◌, ◌*◌, ◌/◌, ◌%◌, ◌^◌, ◌≤◌, ◌<◌}
 use native.Mathlib.{Numerals.add-one, Omega.arith}
-use lib.{Dec.lit<, Seq.drop-cons, Pow.split, Pow.high, Pow.low}
-use lib.ListN.{length, drop, get_or, replicate}
-use lib.Bits.{bit_or, bit_xor, or_shifted, xor_comm, xor_shr, xor_mod, xor_lt, xor_block, xor_shifted}
+use lib.{Dec.lit<, Seq.take_all, Seq.drop-cons, Seq.get_or-drop, Pow.split, Pow.high, Pow.low}
+use lib.ListN.{length, take, drop, get_or, replicate, length-drop}
+use lib.Bits.{bit_xor, xor_comm, xor_shr, xor_mod, xor_lt, xor_block, xor_shifted}
 use Rattle.rules.specs.Crc.{polynomial, shift, bits_of, shift_all, crc_from}
-use Rattle.crc.specs.Folding.{zeros, residue, four, four_at, eight_at, Folded}
+use Rattle.crc.specs.Folding.{turn, zeros, residue, four, four_at, eight, Folded}
 use Rattle.crc.proofs.{Xor.xor_assoc, Xor.xor-pairs, Laws.crc-append, Laws.crc-lt, Laws.crc-four}
-use Rattle.crc.proofs.Turns.{turn, turns, turns-lt, turns-joined}
+use Rattle.crc.proofs.Turns.{turns, turns-lt, turns-joined}
 
 -- ---- zero bytes and what the polynomial leaves, of two numbers joined
 
@@ -94,24 +94,21 @@ folded-eight e a b c d l he ha hb hc hd hl f g =
 
 -- ---- the bytes at a place
 
-pub or-four : (a b c d : ℕ) → a < 256 → b < 256 → c < 256 → d < 256
-    → bit_or (bit_or (bit_or (a * 2 ^ 24 % 2 ^ 32) (b * 2 ^ 16 % 2 ^ 32)) (c * 2 ^ 8 % 2 ^ 32)) d ≡ four a b c d
-or-four a b c d ha hb hc hd =
-    let p : a * 2 ^ 24 % 2 ^ 32 ≡ a * 2 ^ 24 = omega arith in
-    let q : a * 2 ^ 24 + b * 2 ^ 16 % 2 ^ 32 ≡ (a * 2 ^ 8 + b) * 2 ^ 16 = omega arith in
-    let r : (a * 2 ^ 8 + b) * 2 ^ 16 + c * 2 ^ 8 % 2 ^ 32 ≡ (a * 2 ^ 16 + b * 2 ^ 8 + c) * 2 ^ 8 = omega arith in
-    ap (λ (x : ℕ). bit_or (bit_or x (c * 2 ^ 8 % 2 ^ 32)) d)
-    (ap (λ (x : ℕ). bit_or x (b * 2 ^ 16 % 2 ^ 32)) p ∙ or_shifted a 24 (b * 2 ^ 16 % 2 ^ 32) (omega arith) ∙ q)
-    ∙ ap (λ (x : ℕ). bit_or x d) (or_shifted (a * 2 ^ 8 + b) 16 (c * 2 ^ 8 % 2 ^ 32) (omega arith) ∙ r)
-    ∙ or_shifted (a * 2 ^ 16 + b * 2 ^ 8 + c) 8 d hd
-    ∙ omega arith
+pub behind : (n : ℕ) (s : List ℕ) → take (length s - n) (drop n s) ≡ drop n s
+behind n s = take_all (length s - n) (drop n s) (omega (arith, length-drop n s))
+
+pub length-behind : (n : ℕ) {k : ℕ} (s : List ℕ) → n + k ≤ length s → k ≤ length (drop n s)
+length-behind n s h = omega (arith, length-drop n s)
+
+pub bytes-behind : (n : ℕ) (s : List ℕ) → ((j : ℕ) → get_or s j 0 < 256) → (j : ℕ) → get_or (drop n s) j 0 < 256
+bytes-behind n s bytes j = rw (get_or-drop n s j 0) (bytes (n + j))
 
 next : (s : List ℕ) (i j : ℕ) → i < length s → j ≡ i + 1 → drop i s ≡ get_or s i 0 ∷ drop j s
 next s i j h e = rw (e, add-one, drop-cons s i 0)
 
--- the register after all bytes of s, where those before the place i are folded into e
-abbrev pub after : List ℕ → ℕ → ℕ → ℕ
-after s e i = crc_from (zeros 4 (residue (bit_xor e (eight_at s i)))) (drop (i + 8) s)
+-- the register after all bytes of s, joined by what was folded before them into e
+abbrev pub after : List ℕ → ℕ → ℕ
+after s e = crc_from (zeros 4 (residue (bit_xor e (eight s)))) (drop 8 s)
 
 module _ (s : List ℕ) (bytes : (j : ℕ) → get_or s j 0 < 256) where
   four-lt : (i : ℕ) → four_at s i < 2 ^ 32
@@ -134,32 +131,33 @@ module _ (s : List ℕ) (bytes : (j : ℕ) → get_or s j 0 < 256) where
       ∙ crc-append r (a ∷ b ∷ c ∷ d ∷ []) (drop (i + 4) s)
       ∙ ap (λ (x : ℕ). crc_from x (drop (i + 4) s)) (crc-four r a b c d hr (bytes i) (bytes (i + 1)) (bytes (i + 2)) (bytes (i + 3)))
 
-  -- the next eight, where e stands for r with four zero bytes behind it
-  eight-next : (r e i : ℕ) → r < 2 ^ 32 → e < 2 ^ 64 → residue e ≡ zeros 4 r → i + 8 ≤ length s → after s e i ≡ crc_from r (drop i s)
-  unfolding eight_at residue
-  eight-next r e i hr he same h =
-      let u = four_at s i in let l = four_at s (i + 4) in let hu = four-lt i in let hl = four-lt (i + 4) in
-      let j : i + 4 + 4 ≡ i + 8 = omega arith in
+  -- all of them, where e stands for r with four zero bytes behind it
+  pub after-is : (r e : ℕ) → r < 2 ^ 32 → e < 2 ^ 64 → residue e ≡ zeros 4 r → 8 ≤ length s → after s e ≡ crc_from r s
+  unfolding eight residue
+  after-is r e hr he same h =
+      let u = four_at s 0 in let l = four_at s 4 in let hu = four-lt 0 in let hl = four-lt 4 in
       let d : residue (u * 2 ^ 32 + l) ≡ bit_xor (zeros 4 u) l =
       ap₂ (λ (x y : ℕ). bit_xor (zeros 4 x) y) (high u 32 hl) (low u 32 hl) in
       sym
-      (four-next r i hr (omega arith)
-      ∙ four-next (zeros 4 (bit_xor r u)) (i + 4) (zeros-lt 4 (bit_xor r u) (xor_lt 32 r u hr hu)) (omega arith)
-      ∙ ap₂ (λ (x y : ℕ). crc_from (zeros 4 x) (drop y s))
+      (four-next r 0 hr (omega arith)
+      ∙ four-next (zeros 4 (bit_xor r u)) 4 (zeros-lt 4 (bit_xor r u) (xor_lt 32 r u hr hu)) h
+      ∙ ap (λ (x : ℕ). crc_from (zeros 4 x) (drop 8 s))
       (ap (λ (x : ℕ). bit_xor x l) (zeros-joined 4 r u hr hu)
       ∙ xor_assoc (zeros 4 r) (zeros 4 u) l
       ∙ ap₂ bit_xor (sym same) (sym d)
-      ∙ sym (residue-joined e (u * 2 ^ 32 + l) he (omega arith)))
-      j)
+      ∙ sym (residue-joined e (u * 2 ^ 32 + l) he (omega arith))))
 
-  pub after-starts : (r e : ℕ) → r < 2 ^ 32 → e ≡ zeros 4 r → 8 ≤ length s → after s e 0 ≡ crc_from r s
-  after-starts r e hr p h = let he : e < 2 ^ 32 = rw p (zeros-lt 4 r hr) in eight-next r e 0 hr (omega arith) (residue-small e he ∙ p) h
+  pub after-starts : (r e : ℕ) → r < 2 ^ 32 → e ≡ zeros 4 r → 8 ≤ length s → after s e ≡ crc_from r s
+  after-starts r e hr p h = let he : e < 2 ^ 32 = rw p (zeros-lt 4 r hr) in after-is r e hr (omega arith) (residue-small e he ∙ p) h
 
-  pub after-goes-on : (e e' i : ℕ) → e < 2 ^ 40 → Folded (bit_xor e (eight_at s i)) e' → i + 16 ≤ length s → after s e' (i + 8) ≡ after s e i
-  unfolding eight_at
-  after-goes-on e e' i he f h =
-      let w = bit_xor e (eight_at s i) in let hu = four-lt i in let hl = four-lt (i + 4) in
-      let hw : w < 2 ^ 64 = xor_lt 64 e (eight_at s i) (omega arith) (omega arith) in
-      let hr = residue-lt w hw in let hs = f.small in
-      eight-next (zeros 4 (residue w)) e' (i + 8) (zeros-lt 4 (residue w) hr) (omega arith)
-      (f.same ∙ crc-append (residue w) (replicate 4 0) (replicate 4 0)) (omega arith)
+  eight-lt : eight s < 2 ^ 64
+  unfolding eight
+  eight-lt = omega (arith, four-lt 0, four-lt 4)
+
+pub after-goes-on : (s : List ℕ) → ((j : ℕ) → get_or s j 0 < 256) → (e e' : ℕ) → e < 2 ^ 40 → Folded (bit_xor e (eight s)) e' → 16 ≤ length s
+    → after (drop 8 s) e' ≡ after s e
+after-goes-on s bytes e e' he f h =
+    let w = bit_xor e (eight s) in let hw : w < 2 ^ 64 = xor_lt 64 e (eight s) (omega arith) (eight-lt s bytes) in
+    let hr = residue-lt w hw in let hs = f.small in
+    after-is (drop 8 s) (bytes-behind 8 s bytes) (zeros 4 (residue w)) e' (zeros-lt 4 (residue w) hr) (omega arith)
+    (f.same ∙ crc-append (residue w) (replicate 4 0) (replicate 4 0)) (length-behind 8 s h)

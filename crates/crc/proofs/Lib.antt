@@ -4,5 +4,5 @@ pub mod Linear
 pub mod Laws
 pub mod Turns
 pub mod Folding
-pub mod Times
+pub mod Products
 pub mod Determined

@@ -6,11 +6,8 @@ use Prim.Native.Nat.{ℕ, zero, suc, ◌+◌, ◌*◌, ◌/◌, ◌%◌, ◌^◌
 use native.Mathlib.Nat.{mod-lt}
 use lib.{Dec.eqb, Pow.pow_pos, Pow.shr_lt}
 use lib.Bits.{bit_xor, xor_shr, xor_lt, xor_zero_r, xor_self}
+use Rattle.crc.specs.Folding.{turn}
 use Rattle.crc.proofs.Xor.{bit-cases, xor-swap, xor_assoc, xor-pairs, xor-double}
-
--- a register r of 1 + w bits moves up by one, and where the bit that leaves is 1 the bits of q are turned over
-unfoldable pub turn : ℕ → ℕ → ℕ → ℕ
-turn w q r = cond (eqb (r / 2 ^ w) 0) (r * 2 % 2 ^ (1 + w)) (bit_xor (r * 2 % 2 ^ (1 + w)) q)
 
 unfoldable pub turns : ℕ → ℕ → ℕ → ℕ → ℕ
 turns w q zero r = r

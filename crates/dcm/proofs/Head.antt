@@ -6,12 +6,12 @@ use Rattle.rules.specs.{Bytes.word, Bytes.from, Tables.dcm_head_zeros, Tables.dc
 use Rattle.rules.specs.declared.DcmHead.{DcmHead}
 use Rattle.rules.specs.declared.Table.TheVariants.{Dcm}
 use Rattle.fields.specs.Outline.{outline_of}
-use Rattle.fields.specs.declared.Outlined.TheVariants.{Records}
+use Rattle.rules.specs.Refusals.{right}
 use Rattle.fields.proofs.{Laws.taken_here, Outlines.map_is, Outlines.head-so}
 
 pub behind-head : (b : List ℕ) (map : ℕ) (h : DcmHead) → 3 ≤ length b - 7 → map ≡ word 5 b → dcm_head_zeros (take 3 (from b 7)) ≡ true
     → h ≡ dcm_head_of (take 3 (from b 7))
-    → Records (record { at = 10; map = map; first = h.first; count = h.count; included = 0 }) ≡ outline_of Dcm b
+    → right (record { at = 10; map = map; first = h.first; count = h.count; included = 0 }) ≡ outline_of Dcm b
 unfolding dcm_head header_of map_header
 behind-head b map h n m z e =
     rw (map_is b map m, e) (head-so Dcm b refl (dcm_head_of (take 3 (from b 7))) _ (taken_here dcm_head (λ h. true) b 7 n z refl))

@@ -1,3 +1,2 @@
 pub mod Head
-pub mod Onward
 pub mod Determined

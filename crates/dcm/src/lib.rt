@@ -1,17 +1,20 @@
 // The defined channels map, DCM: its head, its range byte, and the way over its ranges. b is a section without its CRC.
-#![tactic(auto)]
+#![tactic(auto, unfolding(rules::specs::Tables::dcm, rules::specs::Tables::dcm_head_zeros, rules::specs::Tables::dcm_head_of, rules::specs::Tables::range_of, rules::specs::Tables::range_fair))]
 
-ghost use Rattle.std.specs.Prelude.{◌≡◌, true, ◌+◌, ◌<◌};
+ghost use Rattle.std.specs.Prelude.{◌≡◌};
 ghost use Rattle.rules.specs.Bytes.{from};
-ghost use Rattle.rules.specs.Layout.{entry, records};
+ghost use Rattle.rules.specs.Layout.{records};
+ghost use Rattle.rules.specs.Refusals.{by_number};
 ghost use Rattle.rules.specs.Tables.{dcm_head_zeros, dcm_head_of, range_of, range_fair, dcm};
+ghost use Rattle.rules.specs.declared.Range.{Range};
 ghost use Rattle.rules.specs.declared.Table.TheVariants as table;
-ghost use Rattle.fields.specs.Place.{Stands, Reaches};
+ghost use Rattle.fields.specs.Place.{Stands};
 ghost use Rattle.fields.specs.Outline.{outline_of};
-ghost use Rattle.fields.specs.declared.Skip.TheVariants as skip;
+ghost use Rattle.rules.proofs.Limits.{dcm_limited};
 
-use fields::{Outline, Outlined, Skip};
-use rules::{DcmHead, Range};
+use fields::Outline;
+use fields::records::Records;
+use rules::{DcmHead, Range, Refusal};
 
 // Bytes of the head, and of a range.
 const HEAD: usize = 3;
@@ -24,10 +27,7 @@ fn head_zeros(r: &[u8]) -> bool
 {
     let first = fields::byte(r, 0);
     let length = fields::byte(r, 2);
-    if first / 16 != 0 {
-        return false;
-    }
-    length / 128 == 0
+    first / 16 == 0 && length / 128 == 0
 }
 
 // What the head with these bytes says.
@@ -38,30 +38,31 @@ fn head_of(r: &[u8]) -> DcmHead
     let first_low = fields::byte(r, 1);
     let length = fields::byte(r, 2);
     DcmHead {
-        first: (first % 16) as u16 * 256 + first_low as u16,
+        first: u16::from_be_bytes([first % 16, first_low]),
         count: length % 128,
     }
 }
 
-// Where the range bytes of a section stand, and from which channel: behind the head; or 8, 9.
-pub fn outline(b: &[u8]) -> Outlined
-    ensures { result ≡ outline_of table.Dcm b.now }
+// Where the range bytes of a section stand, and from which channel: behind the head; or 8, 9. (Like the VCM's, but of another head: a trait for
+// the two would have more lines than it saves.)
+pub fn outline(b: &[u8]) -> Result<Outline, Refusal>
+    ensures { by_number result ≡ outline_of table.Dcm b.now }
 {
     if fields::short(b, fields::HEADER, HEAD) {
-        return Outlined::Refused(8);
+        return Err(Refusal::CutShort);
     }
     let r = fields::part(b, fields::HEADER, HEAD);
-    if head_zeros(r) {
-        let h = head_of(r);
-        return Outlined::Records(Outline {
-            at: fields::HEADER + HEAD,
-            map: fields::word(b, 5),
-            first: h.first,
-            count: h.count,
-            included: 0,
-        });
+    if !head_zeros(r) {
+        return Err(Refusal::ZeroBits);
     }
-    Outlined::Refused(9)
+    let h = head_of(r);
+    Ok(Outline {
+        at: fields::HEADER + HEAD,
+        map: fields::word(b, 5),
+        first: h.first,
+        count: h.count,
+        included: 0,
+    })
 }
 
 // What the range byte says.
@@ -76,89 +77,47 @@ pub fn range_of(r: &[u8]) -> Range
 }
 
 // It has channels, and none above 4095: else 10.
-fn range_fair(first: u32, r: Range) -> bool
-    requires { first < 65536 }
+fn range_fair(first: u16, r: Range) -> bool
     ensures { result ≡ range_fair first r }
 {
-    if r.count < 1 {
-        return false;
-    }
-    first + r.count as u32 <= 4096
+    0 < r.count && first as u32 + r.count as u32 <= 4096
 }
 
-// The place behind the range byte at a place, whose first channel is given; or 8, 10.
-fn range_step(b: &[u8], at: usize, first: u16) -> Skip
-    ensures { Stands b.now result (entry dcm first (from b.now at)) }
-{
-    if fields::short(b, at, SIZE) {
-        return Skip::Refused(8);
+// The layout of the table, asked of bytes. A range byte has no zero bits.
+#[derive(Clone, Copy)]
+pub struct Dcm;
+
+impl Records for Dcm {
+    ghost Row = { Range };
+
+    ghost layout = { λ s. dcm };
+
+    fn size(&self, b: &[u8], at: usize) -> usize {
+        SIZE
     }
-    if range_fair(first as u32, range_of(&b[at..at + SIZE])) {
-        return Skip::At(at + SIZE);
+
+    fn zeros(&self, r: &[u8]) -> bool {
+        true
     }
-    Skip::Refused(10)
+
+    fn fair(&self, index: u16, r: &[u8]) -> bool {
+        range_fair(index, range_of(r))
+    }
+
+    fn takes(&self, r: &[u8]) -> u16 {
+        fields::byte(r, 0) as u16 % 128
+    }
+
+    fn described(&self) -> bool {
+        false
+    }
+
+    ghost limited = { λ s. dcm_limited };
 }
 
-// Whether the range byte at a place is right.
-fn is_plain(b: &[u8], at: usize, first: u32) -> bool
-    requires { first < 65536 }
-    ensures { result ≡ true → Stands b.now (skip.At (at + 1)) (entry dcm first (from b.now at)) }
-{
-    if fields::short(b, at, SIZE) {
-        return false;
-    }
-    range_fair(first, range_of(&b[at..at + SIZE]))
-}
-
-// Over the records that are right, as far as they go: the short way for what a plant mostly sends.
-fn skim(b: &[u8], o: Outline) -> Outline
-    requires { 0 < o.count }
-    ensures { Reaches dcm b.now o.at o.first o.count result.at result.first result.count }
-{
-    let mut at = o.at;
-    let mut index = o.first as u32;
-    let mut left = o.count;
-    while 0 < left {
-        if !is_plain(b, at, index) {
-            break;
-        }
-        index = index + (b[at] % 128) as u32;
-        at = at + SIZE;
-        left -= 1;
-    }
-    Outline {
-        at,
-        map: o.map,
-        first: index as u16,
-        count: left,
-        included: o.included,
-    }
-}
-
-// The place behind the range bytes of an outline; or 8, 10. The short way first, and from where that stops byte by byte.
-// With no range there is nothing to refuse: the outline's place, or the end where it lies behind it.
-pub fn past_ranges(b: &[u8], o: Outline) -> Skip
+// The place behind the range bytes of an outline; or 8, 10.
+pub fn past_ranges(b: &[u8], o: Outline) -> Result<usize, Refusal>
     ensures { Stands b.now result (records dcm o.count o.first (from b.now o.at)) }
 {
-    if o.count == 0 {
-        return fields::past_counted(b, o.at, false);
-    }
-    let reached = skim(b, o);
-    let mut at = reached.at;
-    let mut index = reached.first;
-    let mut left = reached.count;
-    while 0 < left {
-        let next = range_step(b, at, index);
-        match next {
-            Skip::At(i) => {
-                index = index + (fields::byte(b, at) % 128) as u16;
-                at = i;
-                left -= 1;
-            }
-            Skip::Refused(n) => {
-                return Skip::Refused(n);
-            }
-        }
-    }
-    Skip::At(at)
+    fields::records::past_records(&Dcm, b, o)
 }

@@ -5,6 +5,7 @@ use Prim.Native.Nat.{ℕ}
 use Prim.Native.String.{String}
 use native.Mathlib.Omega.{arith}
 use mathlib.Core.Path.{◌≡◌, refl}
+use mathlib.Core.Option.{Option}
 use mathlib.Core.List.{List, [], ◌∷◌, ◌++◌, map}
 use Rattle.rules.specs.Descriptors.{Descriptor}
 use Rattle.rules.specs.Form.{form}
@@ -16,7 +17,6 @@ use Rattle.rules.specs.Growth.{GrownParts, Grown, GrownRun, grown, Told, told, U
 use Rattle.rules.specs.Growth
 use Rattle.rules.specs.declared.Table.{Table}
 use Rattle.rules.specs.declared.Table.TheVariants.{Cds, Mms, Vcm, Dcm, Ntt}
-use Rattle.rules.specs.declared.Asked.TheVariants as Asked
 use Rattle.rules.specs.declared.Signal.TheVariants.{Digital}
 use Rattle.rules.proofs.Hex.{hex}
 use Rattle.rules.proofs.Computed.{computed}
@@ -26,6 +26,9 @@ use Rattle.examples.proofs.Plants.{example_plant, d, p, carriers_plain, parts, c
 use Rattle.examples.proofs.HoldingClauses.{eng}
 use Rattle.examples.proofs.NameSections.{name, names}
 use Rattle.examples.proofs.GrowthLimits.{grown_list}
+use Rattle.rules.specs.Section.{part}
+use Rattle.rules.specs.Refusals.{wrong, right}
+use Rattle.std.specs.Prelude.{Some, None}
 
 -- what a section of version 5, 0 of 0, for map 0 reads as
 abbrev said : Table → Structure → List Descriptor → Content
@@ -269,7 +272,7 @@ parts-fair = (refl, refl, (refl, refl, tt))
 
 -- what the descriptor question tells, of a section
 pub tells :
-    map (told (hex "AA BB CC DD")) (Asked.Refused 5 ∷ Asked.Absent ∷ Asked.There 1 2 ∷ [])
+    map (told (hex "AA BB CC DD")) (wrong 5 ∷ right None ∷ right (Some (part 1 2)) ∷ [])
     ≡ Told.refused 5 ∷ Told.none ∷ Told.body (hex "BB CC") ∷ []
 unfolding computed told
 tells = refl

@@ -19,7 +19,7 @@ use Rattle.rules.specs.declared.Holding.{Holding}
 use Rattle.rules.specs.declared.Revision.{Revision}
 use Rattle.rules.specs.declared.Language.{Language}
 use Rattle.rules.specs.declared.State.{State}
-use Rattle.rules.specs.declared.Answer.TheVariants.{Refused, OtherMap, Repeat, Stored, Live}
+use Rattle.rules.specs.declared.Answer.TheVariants.{OtherMap, Repeat, Stored, Live}
 use Rattle.rules.proofs.Hex.{hex}
 use Rattle.rules.proofs.Truths.{unlike}
 use Rattle.rules.proofs.Examples.{ranges}
@@ -183,8 +183,8 @@ pub record HoldingClauses : Type 0 where
   -- pass, no section at all is 3
   pub one :
       map (λ size. (offered (fresh 0 english) (replicate size 0) []).answer) (32768 ∷ 40959 ∷ 40960 ∷ 41000 ∷ [])
-      ≡ Refused 1 ∷ Refused 1 ∷ Refused 3 ∷ Refused 3 ∷ []
-  pub one_first : (offered (state first second third fourth (holding none_live none_gathered 2)) (replicate 40959 0) []).answer ≡ Refused 1
+      ≡ wrong 1 ∷ wrong 1 ∷ wrong 3 ∷ wrong 3 ∷ []
+  pub one_first : (offered (state first second third fourth (holding none_live none_gathered 2)) (replicate 40959 0) []).answer ≡ wrong 1
   -- ---- refusal 2, of what is live: version above 31, last above 3; present is 0 or 1; absent with a field not zero
   pub two_version : answered (λ n. formed_live (live 1 n 0)) 1 256 ≡ counting 0 32
   pub two_last : answered (λ n. formed_live (live 1 0 n)) 1 256 ≡ counting 0 4
@@ -224,21 +224,21 @@ pub record HoldingClauses : Type 0 where
       ∷ with mixed Dcm (holding none_live none_gathered 2)
       ∷ with mixed Ntt (holding none_live none_gathered 2)
       ∷ [])
-      ≡ Refused 3 ∷ Refused 2 ∷ Refused 2 ∷ Refused 2 ∷ Refused 2 ∷ Refused 2 ∷ []
+      ≡ wrong 3 ∷ wrong 2 ∷ wrong 2 ∷ wrong 2 ∷ wrong 2 ∷ wrong 2 ∷ []
   -- ---- step 1: 0xC4 with another map number, and 0xC2 and 0xC3 have none; the state stays
   pub other_map :
       map (λ t. (offered_as mixed (right (said t 0x0103 (revised 7 0 1)))).answer) (Cds ∷ Mms ∷ Vcm ∷ Dcm ∷ Ntt ∷ [])
-      ≡ Stored 1 ∷ Stored 1 ∷ OtherMap ∷ OtherMap ∷ Stored 1 ∷ []
+      ≡ right (Stored 1) ∷ right (Stored 1) ∷ right OtherMap ∷ right OtherMap ∷ right (Stored 1) ∷ []
   pub other_map_state : map (λ t. (offered_as mixed (right (said t 0x0103 (revised 7 0 1)))).state) (Vcm ∷ Dcm ∷ []) ≡ mixed ∷ mixed ∷ []
-  pub other_map_before : (offered_as mixed (right (said Vcm 0x0002 (revised 7 0 4)))).answer ≡ OtherMap
+  pub other_map_before : (offered_as mixed (right (said Vcm 0x0002 (revised 7 0 4)))).answer ≡ right OtherMap
   -- and in words
   pub other_mapped : OtherMapped mixed (said Vcm 0x0103 (revised 7 0 1)) × OtherMapped mixed (said Dcm 0x0002 (revised 7 0 1))
   -- request 2026-01, "another language answers other map": 0xC3 alone has one; the state stays, whatever its last
   pub other_language :
       map (λ t. (offered_as mixed (right (spoken t 0x0102 (speech 0x66 0x72 0x61) (revised 7 0 1)))).answer) (Cds ∷ Mms ∷ Vcm ∷ Dcm ∷ Ntt ∷ [])
-      ≡ Stored 1 ∷ Stored 1 ∷ Stored 1 ∷ Stored 1 ∷ OtherMap ∷ []
+      ≡ right (Stored 1) ∷ right (Stored 1) ∷ right (Stored 1) ∷ right (Stored 1) ∷ right OtherMap ∷ []
   pub other_language_state : (offered_as mixed (right (spoken Ntt 0x0102 (speech 0x66 0x72 0x61) (revised 7 0 1)))).state ≡ mixed
-  pub other_language_before : (offered_as mixed (right (spoken Ntt 0x0102 (speech 0x66 0x72 0x61) (revised 7 0 4)))).answer ≡ OtherMap
+  pub other_language_before : (offered_as mixed (right (spoken Ntt 0x0102 (speech 0x66 0x72 0x61) (revised 7 0 4)))).answer ≡ right OtherMap
   -- bytes as they are (readings, Q9): "ENG" is another, and so is FF FF FF, the wild card of 003; so is 00 00 00, and what differs in one byte
   pub languages :
       map (λ l. (offered_as mixed (right (spoken Ntt 0x0102 l (revised 7 0 1)))).answer)
@@ -250,7 +250,7 @@ pub record HoldingClauses : Type 0 where
       ∷ speech 0x65 0x6F 0x67
       ∷ speech 0x65 0x6E 0x68
       ∷ [])
-      ≡ Stored 1 ∷ OtherMap ∷ OtherMap ∷ OtherMap ∷ OtherMap ∷ OtherMap ∷ OtherMap ∷ []
+      ≡ right (Stored 1) ∷ right OtherMap ∷ right OtherMap ∷ right OtherMap ∷ right OtherMap ∷ right OtherMap ∷ right OtherMap ∷ []
   pub language_bytes :
       answered (λ b. as_number (same_language (speech b 0x6E 0x67) english)) 1 256
       ∷ answered (λ b. as_number (same_language (speech 0x65 b 0x67) english)) 1 256
@@ -260,13 +260,13 @@ pub record HoldingClauses : Type 0 where
   -- it is compared with the one given at the start
   pub language_given :
       map (λ l. (offered_as (fresh 0 (hex "66 72 61")) (right (spoken Ntt 0 l (revised 7 0 1)))).answer) (eng ∷ speech 0x66 0x72 0x61 ∷ [])
-      ≡ OtherMap ∷ Stored 1 ∷ []
+      ≡ right OtherMap ∷ right (Stored 1) ∷ []
   -- a box may be started with any three bytes (N20), and takes these alone: FF FF FF is no wild card there either (Q9), and 00 00 00 is a language like others
   pub language_any :
       map (λ ours. map (λ l. (offered (fresh 0 ours) empty_store l).answer) (english_five
       ∷ hex "C3 30 0F 00 FF FF FF 06 00 93 03 E5 00 00 50 4A 4A A0" ∷ hex "C3 30 0F 00 00 00 00 06 00 93 03 E5 00 00 CD F1 88 D1" ∷ []))
       (hex "FF FF FF" ∷ hex "00 00 00" ∷ [])
-      ≡ (OtherMap ∷ Live 5 ∷ OtherMap ∷ []) ∷ (OtherMap ∷ OtherMap ∷ Live 5 ∷ []) ∷ []
+      ≡ (right OtherMap ∷ right (Live 5) ∷ right OtherMap ∷ []) ∷ (right OtherMap ∷ right OtherMap ∷ right (Live 5) ∷ []) ∷ []
   -- and in words
   pub other_spoken :
       OtherMapped mixed (spoken Ntt 0x0102 (speech 0x66 0x6E 0x67) (revised 7 0 1))
@@ -275,64 +275,64 @@ pub record HoldingClauses : Type 0 where
   pub same_spoken : SameLanguage eng english
   -- of our map its table's holding moves, and no other
   pub our_map : map (λ t. offered_as mixed (right (said t 0x0102 (revised 7 0 0)))) (Cds ∷ Mms ∷ Vcm ∷ Dcm ∷ Ntt ∷ [])
-      ≡ record { answer = Live 7; state = with mixed Cds (holding (live 1 7 0) none_gathered 1) }
-      ∷ record { answer = Live 7; state = with mixed Mms (holding (live 1 7 0) none_gathered 0) }
-      ∷ record { answer = Live 7; state = with mixed Vcm (holding (live 1 7 0) none_gathered 0) }
-      ∷ record { answer = Live 7; state = with mixed Dcm (holding (live 1 7 0) none_gathered 1) }
-      ∷ record { answer = Live 7; state = with mixed Ntt (holding (live 1 7 0) none_gathered 0) }
+      ≡ record { answer = right (Live 7); state = with mixed Cds (holding (live 1 7 0) none_gathered 1) }
+      ∷ record { answer = right (Live 7); state = with mixed Mms (holding (live 1 7 0) none_gathered 0) }
+      ∷ record { answer = right (Live 7); state = with mixed Vcm (holding (live 1 7 0) none_gathered 0) }
+      ∷ record { answer = right (Live 7); state = with mixed Dcm (holding (live 1 7 0) none_gathered 1) }
+      ∷ record { answer = right (Live 7); state = with mixed Ntt (holding (live 1 7 0) none_gathered 0) }
       ∷ []
   -- each table has its own versions: version 2 is live in the MMS alone
   pub own_versions :
       map (λ t. (offered_as mixed (right (said t 0x0102 (revised 2 0 1)))).answer) (Cds ∷ Mms ∷ Vcm ∷ Dcm ∷ Ntt ∷ [])
-      ≡ Stored 1 ∷ Repeat ∷ Stored 1 ∷ Stored 1 ∷ Stored 1 ∷ []
-  pub refused_state : offered_as mixed (wrong 9) ≡ record { answer = Refused 9; state = mixed }
+      ≡ right (Stored 1) ∷ right Repeat ∷ right (Stored 1) ∷ right (Stored 1) ∷ right (Stored 1) ∷ []
+  pub refused_state : offered_as mixed (wrong 9) ≡ record { answer = wrong 9; state = mixed }
   -- ---- step 2: last above 3, whatever is live or gathered; step 3 comes behind it
-  pub twelve : map (λ last. (step_of 4 both (revised 6 0 last)).answer) (3 ∷ 4 ∷ 255 ∷ []) ≡ Refused 13 ∷ Refused 12 ∷ Refused 12 ∷ []
-  pub twelve_new : map (λ last. (step_of 4 both (revised 7 0 last)).answer) (3 ∷ 4 ∷ []) ≡ Stored 3 ∷ Refused 12 ∷ []
+  pub twelve : map (λ last. (step_of 4 both (revised 6 0 last)).answer) (3 ∷ 4 ∷ 255 ∷ []) ≡ wrong 13 ∷ wrong 12 ∷ wrong 12 ∷ []
+  pub twelve_new : map (λ last. (step_of 4 both (revised 7 0 last)).answer) (3 ∷ 4 ∷ []) ≡ right (Stored 3) ∷ wrong 12 ∷ []
   pub twelve_holding : (step_of 4 both (revised 7 0 4)).holding ≡ both
   -- ---- step 3: the live version with another last, and the gathered one with another
-  pub thirteen : map (λ last. (step_of 4 both (revised 6 0 last)).answer) (0 ∷ 1 ∷ 2 ∷ 3 ∷ []) ≡ Refused 13 ∷ Repeat ∷ Refused 13 ∷ Refused 13 ∷ []
-  pub thirteen_gathered : map (λ last. (step_of 4 both (revised 5 0 last)).answer) (0 ∷ 1 ∷ 2 ∷ 3 ∷ []) ≡ Refused 13 ∷ Refused 13 ∷ Refused 13 ∷ Stored 1 ∷ []
+  pub thirteen : map (λ last. (step_of 4 both (revised 6 0 last)).answer) (0 ∷ 1 ∷ 2 ∷ 3 ∷ []) ≡ wrong 13 ∷ right Repeat ∷ wrong 13 ∷ wrong 13 ∷ []
+  pub thirteen_gathered : map (λ last. (step_of 4 both (revised 5 0 last)).answer) (0 ∷ 1 ∷ 2 ∷ 3 ∷ []) ≡ wrong 13 ∷ wrong 13 ∷ wrong 13 ∷ right (Stored 1) ∷ []
   pub thirteen_holding : map (λ v. (step_of 4 both (revised v 0 2)).holding) (5 ∷ 6 ∷ []) ≡ both ∷ both ∷ []
   pub thirteen_other :
       map (λ last. (step_of 4 (holding (live 1 6 3) (gathered 1 5 1 0x01) 0) (revised 6 0 last)).answer) (1 ∷ 2 ∷ 3 ∷ [])
-      ≡ Refused 13 ∷ Refused 13 ∷ Repeat ∷ []
+      ≡ wrong 13 ∷ wrong 13 ∷ right Repeat ∷ []
   pub thirteen_above :
       map (λ last. (step_of 4 (holding (live 1 6 3) (gathered 1 5 1 0x01) 0) (revised 5 1 last)).answer) (1 ∷ 2 ∷ 3 ∷ [])
-      ≡ Live 5 ∷ Refused 13 ∷ Refused 13 ∷ []
+      ≡ right (Live 5) ∷ wrong 13 ∷ wrong 13 ∷ []
   -- present is 1 or it is none: 2 is no version either (and refusal 2)
   pub present_two :
       map (λ v. (step_of 4 (holding (live 2 6 1) (gathered 2 5 1 0x02) 0) (revised v 0 1)).answer) (5 ∷ 6 ∷ [])
-      ≡ Stored 1 ∷ Stored 1 ∷ []
+      ≡ right (Stored 1) ∷ right (Stored 1) ∷ []
   -- nothing live and nothing gathered is of no version, not of version 0
-  pub none_zero : step_of 4 fresh_holding (revised 0 0 1) ≡ record { answer = Stored 1; holding = holding none_live (gathered 1 0 1 1) 1 }
-  pub none_zero_live : step_of 4 fresh_holding (revised 0 0 0) ≡ record { answer = Live 0; holding = holding (live 1 0 0) none_gathered 0 }
+  pub none_zero : step_of 4 fresh_holding (revised 0 0 1) ≡ record { answer = right (Stored 1); holding = holding none_live (gathered 1 0 1 1) 1 }
+  pub none_zero_live : step_of 4 fresh_holding (revised 0 0 0) ≡ record { answer = right (Live 0); holding = holding (live 1 0 0) none_gathered 0 }
   -- ---- step 4: the live version, or a number that is held already; what is gathered stays
-  pub repeats : map (λ n. (step_of 4 both (revised 5 n 3)).answer) (0 ∷ 1 ∷ 2 ∷ 3 ∷ []) ≡ Stored 1 ∷ Repeat ∷ Repeat ∷ Stored 1 ∷ []
+  pub repeats : map (λ n. (step_of 4 both (revised 5 n 3)).answer) (0 ∷ 1 ∷ 2 ∷ 3 ∷ []) ≡ right (Stored 1) ∷ right Repeat ∷ right Repeat ∷ right (Stored 1) ∷ []
   pub repeats_live :
       map (λ n. step_of 4 both (revised 6 n 1)) (0 ∷ 1 ∷ [])
-      ≡ record { answer = Repeat; holding = both } ∷ record { answer = Repeat; holding = both } ∷ []
+      ≡ record { answer = right Repeat; holding = both } ∷ record { answer = right Repeat; holding = both } ∷ []
   pub repeats_holding : (step_of 4 both (revised 5 1 3)).holding ≡ both
   -- ---- step 5: n joins, or what was gathered is dropped; a version is another, whether it is bigger or smaller
   pub joins :
       map (λ n. (step_of 4 both (revised 5 n 3)).holding) (0 ∷ 3 ∷ [])
       ≡ holding (live 1 6 1) (gathered 1 5 3 0x07) 0 ∷ holding (live 1 6 1) (gathered 1 5 3 0x0E) 0 ∷ []
   pub begins : map (λ v. step_of 4 both (revised v 2 3)) (4 ∷ 31 ∷ [])
-      ≡ record { answer = Stored 3; holding = holding (live 1 6 1) (gathered 1 4 3 0x04) 0 }
-      ∷ record { answer = Stored 3; holding = holding (live 1 6 1) (gathered 1 31 3 0x04) 0 }
+      ≡ record { answer = right (Stored 3); holding = holding (live 1 6 1) (gathered 1 4 3 0x04) 0 }
+      ∷ record { answer = right (Stored 3); holding = holding (live 1 6 1) (gathered 1 31 3 0x04) 0 }
       ∷ []
   -- ---- step 6: all of 0 to last are held: live, gathering is empty, halves change roles; else how many are still missing
   pub lives :
       step_of 4 (holding (live 1 6 1) (gathered 1 5 3 0x07) 0) (revised 5 3 3)
-      ≡ record { answer = Live 5; holding = holding (live 1 5 3) none_gathered 1 }
+      ≡ record { answer = right (Live 5); holding = holding (live 1 5 3) none_gathered 1 }
   pub lives_back :
       step_of 4 (holding (live 1 6 1) (gathered 1 5 1 0x02) 1) (revised 5 0 1)
-      ≡ record { answer = Live 5; holding = holding (live 1 5 1) none_gathered 0 }
-  pub missing : map (λ last. (step_of 4 both (revised 7 0 last)).answer) (0 ∷ 1 ∷ 2 ∷ 3 ∷ []) ≡ Live 7 ∷ Stored 1 ∷ Stored 2 ∷ Stored 3 ∷ []
+      ≡ record { answer = right (Live 5); holding = holding (live 1 5 1) none_gathered 0 }
+  pub missing : map (λ last. (step_of 4 both (revised 7 0 last)).answer) (0 ∷ 1 ∷ 2 ∷ 3 ∷ []) ≡ right (Live 7) ∷ right (Stored 1) ∷ right (Stored 2) ∷ right (Stored 3) ∷ []
   -- in a state that is not well formed, with a number beyond last held: these are not just all of 0 to last
-  pub beyond : (step_of 4 (holding none_live (gathered 1 5 1 0x05) 1) (revised 5 1 1)).answer ≡ Stored 0
+  pub beyond : (step_of 4 (holding none_live (gathered 1 5 1 0x05) 1) (revised 5 1 1)).answer ≡ right (Stored 0)
   -- ---- the store after an offer
-  pub takes : map (λ a. as_number (takes_in a)) (Refused 5 ∷ OtherMap ∷ Repeat ∷ Stored 1 ∷ Live 5 ∷ []) ≡ 0 ∷ 0 ∷ 0 ∷ 1 ∷ 1 ∷ []
+  pub takes : map (λ a. as_number (takes_in a)) (wrong 5 ∷ right OtherMap ∷ right Repeat ∷ right (Stored 1) ∷ right (Live 5) ∷ []) ≡ 0 ∷ 0 ∷ 0 ∷ 1 ∷ 1 ∷ []
   -- the section stands at the front of its place, section 2 of half 0, and every other byte is as it was
   pub stores : store_after (fresh 0 english) empty_store carriers_two ≡ replicate 2048 0 ++ carriers_two ++ replicate 38896 0
   -- a section of names at 32,768, behind the four tables, and these stay; one of another language is put nowhere
@@ -341,12 +341,12 @@ pub record HoldingClauses : Type 0 where
   -- two languages in one run: ours is gathered and goes live, and its next version too; the other one is *other map* and changes nothing
   pub two_languages :
       answers (record { state = fresh 0 english; store = empty_store }) (names_low ∷ french_low ∷ french_high ∷ names_low ∷ names_high ∷ french_high ∷ names_next ∷ [])
-      ≡ Stored 1 ∷ OtherMap ∷ OtherMap ∷ Repeat ∷ Live 6 ∷ OtherMap ∷ Live 7 ∷ []
+      ≡ right (Stored 1) ∷ right OtherMap ∷ right OtherMap ∷ right Repeat ∷ right (Live 6) ∷ right OtherMap ∷ right (Live 7) ∷ []
   pub two_languages_state :
       (run (record { state = fresh 0 english; store = empty_store }) (names_low ∷ french_low ∷ french_high ∷ carriers_two ∷ names_high ∷ [])).state
       ≡ with (with (fresh 0 english) Cds (holding none_live (gathered 1 5 3 0x04) 1)) Ntt (holding (live 1 6 1) none_gathered 0)
   pub stores_refused : store_after (fresh 0 english) (hex "01 02 03") carriers_two ≡ hex "01 02 03"
-  pub stores_answer : answer_to (record { state = fresh 0 english; store = empty_store }) carriers_two ≡ Stored 3
+  pub stores_answer : answer_to (record { state = fresh 0 english; store = empty_store }) carriers_two ≡ right (Stored 3)
   pub stores_state :
       (box_after (record { state = fresh 0 english; store = empty_store }) carriers_two).state
       ≡ with (fresh 0 english) Cds (holding none_live (gathered 1 5 3 0x04) 1)
@@ -367,7 +367,7 @@ pub record HoldingClauses : Type 0 where
       ≡ some Ntt ∷ none ∷ none ∷ none ∷ none ∷ none ∷ none ∷ []
   pub touched_map : touches (fresh 0x0102 english) channels_late ≡ some Vcm
   -- "Splice and time are not acted on"
-  pub at_once : (offered (fresh 0x0102 english) empty_store channels_late).answer ≡ Live 5
+  pub at_once : (offered (fresh 0x0102 english) empty_store channels_late).answer ≡ right (Live 5)
 
 pub holding-clauses : HoldingClauses
 unfolding computed swept

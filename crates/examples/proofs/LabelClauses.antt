@@ -16,7 +16,7 @@ use Rattle.rules.specs.Label.{is_name, live_names, label_of, channel_label, name
 use Rattle.rules.specs.declared.Table.{Table}
 use Rattle.rules.specs.declared.Table.TheVariants.{Cds, Vcm, Ntt}
 use Rattle.rules.specs.declared.State.{State}
-use Rattle.rules.specs.declared.Labelled.TheVariants.{Refused, Named, Fallback}
+use Rattle.rules.specs.declared.Labelled.TheVariants.{Named, Fallback}
 use Rattle.rules.proofs.Hex.{hex}
 use Rattle.rules.proofs.Computed.{computed}
 use Rattle.examples.proofs.Plants.{plant_cds, plant_vcm, plant_ntt, names_plain, names_grown}
@@ -25,6 +25,7 @@ use Rattle.examples.proofs.HoldingClauses.{live, gathered, holding}
 use Rattle.examples.proofs.TuningClauses.{live5}
 use Rattle.examples.proofs.LiveBoxes.{padded}
 use Rattle.examples.proofs.NameSections.{name}
+use Rattle.rules.specs.Refusals.{wrong, right}
 
 -- ---- states: each table's version 5 with last 0 is live in half 0, but for the names, of which this is live
 
@@ -75,9 +76,9 @@ pub record LabelClauses : Type 0 where
       ≡ Fallback ∷ Named 104 1 ∷ Named 4 4 ∷ Named 40004 255 ∷ []
   -- the label is a part of the store, from its start to its size, or the fallback, whatever bytes it has, also none; nothing where the question is refused
   pub parts :
-      map (label_bytes (hex "01 02 03 04") (hex "AA")) (Named 1 2 ∷ Named 0 4 ∷ Named 3 0 ∷ Refused 18 ∷ [])
+      map (label_bytes (hex "01 02 03 04") (hex "AA")) (right (Named 1 2) ∷ right (Named 0 4) ∷ right (Named 3 0) ∷ wrong 18 ∷ [])
       ≡ hex "02 03" ∷ hex "01 02 03 04" ∷ [] ∷ [] ∷ []
-  pub fallbacks : map (λ lent. label_bytes (hex "01 02 03") lent Fallback) (hex "07 FF" ∷ [] ∷ []) ≡ hex "07 FF" ∷ [] ∷ []
+  pub fallbacks : map (λ lent. label_bytes (hex "01 02 03") lent (right Fallback)) (hex "07 FF" ∷ [] ∷ []) ≡ hex "07 FF" ∷ [] ∷ []
   -- of a channel's record the flag and the number alone: digital, hidden and of path 1, analogue, and applications, one of them hidden, of path 1 and analogue
   pub any_channel :
       map (λ r. channel_label (names_held 1 6 1 0) (names_alone (padded 1024 low_names ++ high_names)) (some (record { index = 0; what = channel_of r })))
@@ -87,9 +88,9 @@ pub record LabelClauses : Type 0 where
       ∷ hex "00 03 80 12 34 00 00 00 00"
       ∷ hex "00 03 B1 12 34 02 84 00 00"
       ∷ [])
-      ≡ Named 32789 6 ∷ Named 32789 6 ∷ Named 32789 6 ∷ Named 32781 3 ∷ Named 32781 3 ∷ []
+      ≡ right (Named 32789 6) ∷ right (Named 32789 6) ∷ right (Named 32789 6) ∷ right (Named 32781 3) ∷ right (Named 32781 3) ∷ []
   -- refusal 18: no channel record
-  pub no_channel : channel_label live5 [] none ≡ Refused 18
+  pub no_channel : channel_label live5 [] none ≡ wrong 18
   -- ---- the live names: none where the table isn't live; those that are gathered beside them don't matter (readings, Q13); the live half is the one set
   pub none_live_computed : live_names (with live5 Ntt (holding none_live none_gathered 0)) (names_alone small_names) ≡ []
   pub gathered_too :

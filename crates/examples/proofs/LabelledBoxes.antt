@@ -9,7 +9,7 @@ use Rattle.rules.specs.Tuning.{tune}
 use Rattle.rules.specs.Label.{labelled, label_bytes}
 use Rattle.rules.specs.declared.Table.TheVariants.{Cds, Mms, Vcm, Dcm, Ntt}
 use Rattle.rules.specs.declared.Tuned.TheVariants as Tuned
-use Rattle.rules.specs.declared.Labelled.TheVariants.{Refused, Named, Fallback}
+use Rattle.rules.specs.declared.Labelled.TheVariants.{Named, Fallback}
 use Rattle.rules.specs.Lineup.{text}
 use Rattle.rules.specs.LabelLines.{label_line_of}
 use Rattle.examples.proofs.Plants.{plant_cds, plant_mms, plant_vcm, plant_dcm, plant_ntt}
@@ -19,6 +19,7 @@ use Rattle.examples.proofs.HoldingClauses.{live, gathered, holding, empty_store}
 use Rattle.examples.proofs.TuningClauses.{live5}
 use Rattle.examples.proofs.LiveBoxes.{padded, store_of, plant_store}
 use Rattle.examples.proofs.LabelClauses.{names_held, low_names, high_names, small_names}
+use Rattle.rules.specs.Refusals.{wrong, right}
 
 -- ---- channels that don't tune, for map 0x0102: 2 to 5 are number 0x1234, without a carrier reference, without a carrier, out of reach, without a mode; 6 is
 -- the application 0x1234; 7 is number 0; of 8 the first record says 0x1235, the second 0x1234; 9 has a record and is not defined, 10 is defined and has none
@@ -48,52 +49,52 @@ pub record LabelledBoxes : Type 0 where
   -- first record of a channel says its flag and number; one without a name has the fallback; then 17 and 18
   pub named :
       map (labelled (names_held 1 6 1 0) named_store) (2 ∷ 3 ∷ 4 ∷ 5 ∷ 6 ∷ 7 ∷ 8 ∷ 9 ∷ 10 ∷ [])
-      ≡ Named 32789 6
-      ∷ Named 32789 6
-      ∷ Named 32789 6
-      ∷ Named 32789 6
-      ∷ Named 32781 3
-      ∷ Named 33821 2
-      ∷ Fallback
-      ∷ Refused 17
-      ∷ Refused 18
+      ≡ right (Named 32789 6)
+      ∷ right (Named 32789 6)
+      ∷ right (Named 32789 6)
+      ∷ right (Named 32789 6)
+      ∷ right (Named 32781 3)
+      ∷ right (Named 33821 2)
+      ∷ right Fallback
+      ∷ wrong 17
+      ∷ wrong 18
       ∷ []
   pub not_tuned :
-      map (tune (names_held 1 6 1 0) named_store) (2 ∷ 3 ∷ 4 ∷ 5 ∷ []) ≡ Tuned.Refused 19 ∷ Tuned.Refused 19 ∷ Tuned.Refused 20 ∷ Tuned.Refused 21 ∷ []
+      map (tune (names_held 1 6 1 0) named_store) (2 ∷ 3 ∷ 4 ∷ 5 ∷ []) ≡ wrong 19 ∷ wrong 19 ∷ wrong 20 ∷ wrong 21 ∷ []
   -- the plant with another value in every field: a hidden digital channel and an application, both of path 1, and an analogue one, which has no name; and
   -- what `labels` prints of each, also where the names are damaged, so that the label is refused as 16 and the channel has its line
-  pub plant : map (labelled live5 plant_named) (0x123 ∷ 0x124 ∷ 0x125 ∷ []) ≡ Named 32797 6 ∷ Named 32813 4 ∷ Fallback ∷ []
+  pub plant : map (labelled live5 plant_named) (0x123 ∷ 0x124 ∷ 0x125 ∷ []) ≡ right (Named 32797 6) ∷ right (Named 32813 4) ∷ right Fallback ∷ []
   pub plant_lines :
       map (label_line_of (record { state = live5; store = plant_named })) (0x122 ∷ 0x123 ∷ 0x124 ∷ 0x125 ∷ [])
       ≡ [] ∷ (text "channel=291 label=803F024E2D9F\n" ∷ []) ∷ (text "channel=292 label=00024142\n" ∷ []) ∷ (text "channel=293 label=\n" ∷ []) ∷ []
-  pub damaged_line : labelled live5 plant_store 0x124 ≡ Refused 16
+  pub damaged_line : labelled live5 plant_store 0x124 ≡ wrong 16
   pub damaged_lines : label_line_of (record { state = live5; store = plant_store }) 0x124 ≡ text "channel=292 label=\n" ∷ []
   -- all of the name, its mode and length bytes too (Q10); the fallback as it is lent
   pub bytes :
-      map (label_bytes named_store (hex "AA BB")) (Named 32789 6 ∷ Named 32781 3 ∷ Named 33821 2 ∷ Fallback ∷ [])
+      map (label_bytes named_store (hex "AA BB")) (right (Named 32789 6) ∷ right (Named 32781 3) ∷ right (Named 33821 2) ∷ right Fallback ∷ [])
       ≡ hex "80 3F 02 4E 2D 9F" ∷ hex "00 01 4C" ∷ hex "00 00" ∷ hex "AA BB" ∷ []
   -- ---- the fallback where the table isn't live, whatever stands in its places, and where names are only gathered, in the half where they stand
-  pub not_live : labelled (with live5 Ntt (holding none_live (gathered 1 5 1 0x01) 1)) (small_store small_names) 3 ≡ Fallback
-  pub not_there : map (labelled (with live5 Ntt fresh_holding) (small_store [])) (3 ∷ 4 ∷ 5 ∷ []) ≡ Fallback ∷ Refused 18 ∷ Refused 17 ∷ []
+  pub not_live : labelled (with live5 Ntt (holding none_live (gathered 1 5 1 0x01) 1)) (small_store small_names) 3 ≡ right Fallback
+  pub not_there : map (labelled (with live5 Ntt fresh_holding) (small_store [])) (3 ∷ 4 ∷ 5 ∷ []) ≡ right Fallback ∷ wrong 18 ∷ wrong 17 ∷ []
   -- ---- refusals 1, 2, 14, 15, 16, in their order
-  pub order_one : labelled (with live5 Ntt (holding none_live none_gathered 2)) (take 40959 (small_store small_names)) 4096 ≡ Refused 1
-  pub order_two : labelled (with live5 Ntt (holding none_live none_gathered 2)) (small_store small_names) 4096 ≡ Refused 2
+  pub order_one : labelled (with live5 Ntt (holding none_live none_gathered 2)) (take 40959 (small_store small_names)) 4096 ≡ wrong 1
+  pub order_two : labelled (with live5 Ntt (holding none_live none_gathered 2)) (small_store small_names) 4096 ≡ wrong 2
   -- a store of before request 2026-01 is too short (T16); one of 40,960 bytes is not, nor a longer one
   pub one :
       map (λ size. labelled (with live5 Mms fresh_holding) (replicate size 0) 3) (32768 ∷ 40959 ∷ 40960 ∷ 40961 ∷ [])
-      ≡ Refused 1 ∷ Refused 1 ∷ Refused 15 ∷ Refused 15 ∷ []
-  pub order_fourteen : map (labelled (with live5 Dcm fresh_holding) empty_store) (4095 ∷ 4096 ∷ []) ≡ Refused 15 ∷ Refused 14 ∷ []
+      ≡ wrong 1 ∷ wrong 1 ∷ wrong 15 ∷ wrong 15 ∷ []
+  pub order_fourteen : map (labelled (with live5 Dcm fresh_holding) empty_store) (4095 ∷ 4096 ∷ []) ≡ wrong 15 ∷ wrong 14 ∷ []
   -- 15: each of the four tables of tuning, before 16
   pub fifteen :
-      map (λ t. labelled (with live5 t fresh_holding) empty_store 5) (Cds ∷ Mms ∷ Vcm ∷ Dcm ∷ []) ≡ Refused 15 ∷ Refused 15 ∷ Refused 15 ∷ Refused 15 ∷ []
+      map (λ t. labelled (with live5 t fresh_holding) empty_store 5) (Cds ∷ Mms ∷ Vcm ∷ Dcm ∷ []) ≡ wrong 15 ∷ wrong 15 ∷ wrong 15 ∷ wrong 15 ∷ []
   -- 16: a place of each of the five tables that no longer reads right, before 17; where names aren't live theirs is no place
   pub sixteen :
       map (λ t. labelled (with live5 t (holding (live 1 5 0) none_gathered 1)) (small_store small_names) 5) (Cds ∷ Mms ∷ Vcm ∷ Dcm ∷ Ntt ∷ [])
-      ≡ Refused 16 ∷ Refused 16 ∷ Refused 16 ∷ Refused 16 ∷ Refused 16 ∷ []
+      ≡ wrong 16 ∷ wrong 16 ∷ wrong 16 ∷ wrong 16 ∷ wrong 16 ∷ []
   -- ---- names change no tuning: there, not live (damaged: LiveBoxes.antt)
   pub tunes_same :
       tune live5 (small_store small_names) 3 ∷ tune (with live5 Ntt fresh_holding) (small_store []) 3 ∷ []
-      ≡ Tuned.Application 0 0 0x1234 ∷ Tuned.Application 0 0 0x1234 ∷ []
+      ≡ right (Tuned.Application 0 0 0x1234) ∷ right (Tuned.Application 0 0 0x1234) ∷ []
 
 pub labelled-boxes : LabelledBoxes
 unfolding computed

@@ -16,6 +16,7 @@ use Rattle.rules.proofs.Examples.{borders_cds, borders_mms, borders_vcm, borders
 use Rattle.examples.proofs.Plants.{plant_cds, plant_mms, plant_vcm, plant_dcm}
 use Rattle.examples.proofs.HoldingClauses.{live, holding, empty_store}
 use Rattle.examples.proofs.TuningClauses.{c12, live5}
+use Rattle.rules.specs.Refusals.{wrong, right}
 
 -- ---- live boxes: of each table the bytes of its places, half 0 first, with zeros behind them
 
@@ -57,34 +58,34 @@ two_store section0 section1 =
 pub record LiveBoxes : Type 0 where
   -- ---- through `tune` of a live box: a plant with another value in every field
   pub tunes_plant : map (tune live5 plant_store) (0x121 ∷ 0x122 ∷ 0x123 ∷ 0x124 ∷ 0x125 ∷ 0x126 ∷ [])
-      ≡ Tuned.Refused 17
-      ∷ Tuned.Refused 17
-      ∷ Tuned.Digital 1 1 63000 0x0102 (record { system = 4; inner = 11; split = 1; format = 24; symbols = 0x1234567 })
-      ∷ Tuned.Application 0 1 0x0506
-      ∷ Tuned.Analogue 0 0 66000 4 1
-      ∷ Tuned.Refused 17
+      ≡ wrong 17
+      ∷ wrong 17
+      ∷ right (Tuned.Digital 1 1 63000 0x0102 (record { system = 4; inner = 11; split = 1; format = 24; symbols = 0x1234567 }))
+      ∷ right (Tuned.Application 0 1 0x0506)
+      ∷ right (Tuned.Analogue 0 0 66000 4 1)
+      ∷ wrong 17
       ∷ []
   -- C2, C3 and C4
   pub tunes_borders :
       map (tune border_state border_store) (2 ∷ 3 ∷ 4 ∷ 5 ∷ [])
-      ≡ Tuned.Digital 0 0 54000 3 c12 ∷ Tuned.Refused 20 ∷ Tuned.Digital 0 0 1002000 3 c12 ∷ Tuned.Refused 20 ∷ []
+      ≡ right (Tuned.Digital 0 0 54000 3 c12) ∷ wrong 20 ∷ right (Tuned.Digital 0 0 1002000 3 c12) ∷ wrong 20 ∷ []
   -- the lowest section first, by its number; a record of a later section is found too, and each counts from its own first index
-  pub tunes_lowest : map (tune two_state (two_store low_cds high_cds)) (2 ∷ 3 ∷ []) ≡ Tuned.Digital 0 0 54000 3 c12 ∷ Tuned.Digital 0 0 60000 3 c12 ∷ []
+  pub tunes_lowest : map (tune two_state (two_store low_cds high_cds)) (2 ∷ 3 ∷ []) ≡ right (Tuned.Digital 0 0 54000 3 c12) ∷ right (Tuned.Digital 0 0 60000 3 c12) ∷ []
   -- ---- 1, 2, 14, 15, 16, in their order
-  pub order_one : tune (with live5 Dcm (holding none_live none_gathered 2)) (take 40959 plant_store) 4096 ≡ Tuned.Refused 1
-  pub order_two : tune (with live5 Dcm (holding none_live none_gathered 2)) plant_store 4096 ≡ Tuned.Refused 2
-  pub order_fourteen : map (tune (with live5 Dcm fresh_holding) empty_store) (4095 ∷ 4096 ∷ []) ≡ Tuned.Refused 15 ∷ Tuned.Refused 14 ∷ []
+  pub order_one : tune (with live5 Dcm (holding none_live none_gathered 2)) (take 40959 plant_store) 4096 ≡ wrong 1
+  pub order_two : tune (with live5 Dcm (holding none_live none_gathered 2)) plant_store 4096 ≡ wrong 2
+  pub order_fourteen : map (tune (with live5 Dcm fresh_holding) empty_store) (4095 ∷ 4096 ∷ []) ≡ wrong 15 ∷ wrong 14 ∷ []
   -- 15: each of the four tables; before 16
   pub fifteen :
       map (λ t. tune (with live5 t fresh_holding) empty_store 3) (Cds ∷ Mms ∷ Vcm ∷ Dcm ∷ [])
-      ≡ Tuned.Refused 15 ∷ Tuned.Refused 15 ∷ Tuned.Refused 15 ∷ Tuned.Refused 15 ∷ []
+      ≡ wrong 15 ∷ wrong 15 ∷ wrong 15 ∷ wrong 15 ∷ []
   -- 16: a place of each table that no longer reads right; the other half doesn't count; before 17
   pub sixteen :
       map (λ t. tune (with live5 t (holding (live 1 5 0) none_gathered 1)) plant_store 0x121) (Cds ∷ Mms ∷ Vcm ∷ Dcm ∷ [])
-      ≡ Tuned.Refused 16 ∷ Tuned.Refused 16 ∷ Tuned.Refused 16 ∷ Tuned.Refused 16 ∷ []
+      ≡ wrong 16 ∷ wrong 16 ∷ wrong 16 ∷ wrong 16 ∷ []
   -- every live place is read, the first and the last
-  pub sixteen_first : tune two_state (two_store high_cds high_cds) 2 ≡ Tuned.Refused 16
-  pub sixteen_second : tune two_state (two_store low_cds low_cds) 2 ≡ Tuned.Refused 16
+  pub sixteen_first : tune two_state (two_store high_cds high_cds) 2 ≡ wrong 16
+  pub sixteen_second : tune two_state (two_store low_cds low_cds) 2 ≡ wrong 16
 
 pub live-boxes : LiveBoxes
 unfolding computed

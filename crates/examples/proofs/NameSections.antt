@@ -5,7 +5,7 @@ use Prim.Native.Nat.{ℕ}
 use mathlib.Core.Path.{◌≡◌, refl}
 use mathlib.Core.Bool.{true}
 use mathlib.Core.List.{List, [], ◌∷◌, ◌++◌, map}
-use mathlib.Core.Option.{some}
+use mathlib.Core.Option.{none, some}
 use lib.ListN.{length, replicate}
 use Rattle.rules.specs.Bytes.{refused, got}
 use Rattle.rules.specs.Layout.{Numbered, taken}
@@ -14,8 +14,6 @@ use Rattle.rules.specs.Form.{Front, form}
 use Rattle.rules.specs.Section.{Structure, right, read_section, check, read_as, ask}
 use Rattle.rules.specs.declared.Table.TheVariants.{Ntt}
 use Rattle.rules.specs.declared.Language.{Language}
-use Rattle.rules.specs.declared.Read.TheVariants as Read
-use Rattle.rules.specs.declared.Asked.TheVariants as Asked
 use Rattle.rules.proofs.Hex.{hex}
 use Rattle.rules.proofs.Computed.{computed}
 use Rattle.examples.proofs.Plants.{plant_ntt, names_plain, names_grown}
@@ -25,6 +23,8 @@ use Rattle.examples.proofs.SectionFields.{meant_by}
 use Rattle.examples.proofs.SectionOrder.{body}
 use Rattle.examples.proofs.SectionRefusals.{bits_of, cuts_of, short_of}
 use Rattle.examples.proofs.NameTexts.{reserved}
+use Rattle.rules.specs.Section.{part}
+use Rattle.std.specs.Prelude.{Some, None}
 
 -- ---- what a section of names says
 
@@ -97,11 +97,11 @@ pub record NameSections : Type 0 where
   pub means_grown : meant_by (read_section names_grown) ≡ meant_by (read_section names_plain)
   pub head_names :
       read_as plant_ntt (read_section plant_ntt)
-      ≡ Read.Right (record { table = Ntt; map = 0; language = eng; revision = record { version = 5; number = 0; last = 0 }; closing = 58 })
+      ≡ right (record { table = Ntt; map = 0; language = eng; revision = record { version = 5; number = 0; last = 0 }; closing = 58 })
   -- the descriptor question looks at the closing list alone
   pub asked_names :
       map (λ tag. ask tag names_grown) (0x93 ∷ 0x81 ∷ 0x80 ∷ 0x82 ∷ [])
-      ≡ Asked.There 38 5 ∷ Asked.There 36 0 ∷ Asked.Absent ∷ Asked.Absent ∷ []
+      ≡ right (Some (part 38 5)) ∷ right (Some (part 36 0)) ∷ right None ∷ right None ∷ []
   -- the C question answers 0 in any language (readings, Q15): here "eng", "ENG", FF FF FF and 00 00 00; record count 0 is good (Q3)
   pub right_ones :
       map check
@@ -253,7 +253,7 @@ pub record NameSections : Type 0 where
   -- the revision is the section's: version, number and last
   pub revision_names :
       read_as names_high (read_section names_high)
-      ≡ Read.Right (record { table = Ntt; map = 0; language = eng; revision = record { version = 6; number = 1; last = 1 }; closing = 9 })
+      ≡ right (record { table = Ntt; map = 0; language = eng; revision = record { version = 6; number = 1; last = 1 }; closing = 9 })
 
 pub name-sections : NameSections
 unfolding computed swept

@@ -19,6 +19,7 @@ use Rattle.rules.proofs.Hex.{hex}
 use Rattle.rules.proofs.Computed.{computed}
 use Rattle.examples.proofs.Sweeps.{as_number, sweep, swept}
 use Rattle.examples.proofs.HoldingClauses.{live, gathered, holding}
+use Rattle.rules.specs.Refusals.{OrRefused, wrong, right}
 
 -- version 1 of the CDS and version 0 of the MMS live, version 3 of the VCM gathered, nothing of the DCM; version 4 of the names live
 abbrev pub some_live : State
@@ -49,8 +50,8 @@ abbrev pub taken : Intake
 taken = feed_all (begin 258) pieces
 
 -- every odd channel is an application with twice its number
-abbrev pub odd_ones : ℕ → Tuned
-odd_ones n = cond (eqb (n % 2) 1) (Tuned.Application 0 0 (n * 2)) (Tuned.Refused 17)
+abbrev pub odd_ones : ℕ → OrRefused Tuned
+odd_ones n = cond (eqb (n % 2) 1) (right (Tuned.Application 0 0 (n * 2))) (wrong 17)
 
 pub record PrintClauses : Type 0 where
   -- ---- text and numbers
@@ -69,7 +70,7 @@ pub record PrintClauses : Type 0 where
   pub in_english : english ≡ hex "65 6E 67"
   -- answers with a number are counted as refused, and no other
   pub counted :
-      map (λ a. refusals (a ∷ Answer.Refused 1 ∷ [])) (Answer.Refused 12 ∷ Answer.OtherMap ∷ Answer.Repeat ∷ Answer.Stored 2 ∷ Answer.Live 3 ∷ [])
+      map (λ a. refusals (a ∷ wrong 1 ∷ [])) (wrong 12 ∷ right Answer.OtherMap ∷ right Answer.Repeat ∷ right (Answer.Stored 2) ∷ right (Answer.Live 3) ∷ [])
       ≡ 2 ∷ 1 ∷ 1 ∷ 1 ∷ 1 ∷ []
   -- ---- the lines
   pub versions : version_lines some_live ≡ text "cds=1\nmms=0\nvcm=none\ndcm=none\nntt=4\n"
@@ -89,11 +90,11 @@ pub record PrintClauses : Type 0 where
   pub no-version : map version (live 0 0 0 ∷ live 1 5 0 ∷ live 2 5 0 ∷ []) ≡ text "none" ∷ text "5" ∷ text "none" ∷ []
   pub headed : heading some_live 11 22 33 ≡ text "lineup=1\nmap=258\nsections=11\nrefused=22\n" ++ version_lines some_live ++ text "channels=33\n"
   pub digital :
-      channel_line 5 (Tuned.Digital 1 0 63000 3 some_mode)
+      channel_line 5 (right (Tuned.Digital 1 0 63000 3 some_mode))
       ≡ text "channel=5 kind=digital hidden=1 path=0 khz=63000 program=3 system=2 inner=15 split=1 format=8 symbols=5056941\n" ∷ []
-  pub analogue : channel_line 5 (Tuned.Analogue 0 1 63000 4 1) ≡ text "channel=5 kind=analogue hidden=0 path=1 khz=63000 standard=4 scrambled=1\n" ∷ []
-  pub application : channel_line 5 (Tuned.Application 1 0 7) ≡ text "channel=5 kind=application hidden=1 path=0 application=7\n" ∷ []
-  pub no_line : channel_line 5 (Tuned.Refused 17) ≡ []
+  pub analogue : channel_line 5 (right (Tuned.Analogue 0 1 63000 4 1)) ≡ text "channel=5 kind=analogue hidden=0 path=1 khz=63000 standard=4 scrambled=1\n" ∷ []
+  pub application : channel_line 5 (right (Tuned.Application 1 0 7)) ≡ text "channel=5 kind=application hidden=1 path=0 application=7\n" ∷ []
+  pub no_line : channel_line 5 (wrong 17) ≡ []
   -- ascending, and none behind the last
   pub ascending : channel_lines (λ n. channel_line n (odd_ones n)) 3 6 ≡ text "channel=7 kind=application hidden=0 path=0 application=14\n" ∷ []
   pub ascending-all :

@@ -5,7 +5,7 @@ use mathlib.Core.Logic.{◌⊎◌, inl, inr}
 use mathlib.Core.List.{[], ◌∷◌, map}
 use mathlib.Core.Option.{none, some}
 use lib.ListN.{replicate}
-use Rattle.rules.specs.Holding.{fresh}
+use Rattle.rules.specs.Holding.{fresh, outcome}
 use Rattle.rules.specs.Lineup.{english}
 use Rattle.rules.specs.Offering.{is_going_live}
 use Rattle.rules.specs.Answered.{khz_of}
@@ -13,8 +13,6 @@ use Rattle.rules.specs.Labelling.{refused, name, lent, told_label}
 use Rattle.rules.specs.Said.{read_said, asked_said, answer_said, tuned_said, label_said, section_said, ask_said, offer_said, tune_said, ask_label_said}
 use Rattle.rules.specs.Said.{OfSection, OfOffer, OfTuning, OfLabel}
 use Rattle.rules.specs.declared.Table.TheVariants.{Cds, Mms, Vcm, Dcm, Ntt}
-use Rattle.rules.specs.declared.Read.TheVariants as Read
-use Rattle.rules.specs.declared.Asked.TheVariants as Asked
 use Rattle.rules.specs.declared.Answer.TheVariants as Answer
 use Rattle.rules.specs.declared.Tuned.TheVariants as Tuned
 use Rattle.rules.specs.declared.Labelled.TheVariants as Labelled
@@ -22,17 +20,50 @@ use Rattle.rules.proofs.Hex.{hex}
 use Rattle.rules.proofs.Computed.{computed}
 use Rattle.examples.proofs.Plants.{plant_dcm}
 use Rattle.examples.proofs.Sweeps.{swept, as_number}
+use Rattle.rules.specs.Refusals.{wrong, right, number, by_number}
+use Rattle.rules.specs.Steps.{none_gathered, fresh_holding, stepped}
+use Rattle.rules.specs.Section.{part}
+use Rattle.std.specs.Prelude.{ℕ, Some, None, Ok, Err}
+use Rattle.rules.specs.declared.Refusal.TheVariants as Refusal
+use Rattle.rules.specs.declared.Holding.{Holding}
+
+-- something held that is not what a fresh box holds
+abbrev other : Holding
+other = record { live = record { present = 1; version = 6; last = 1 }; gathered = none_gathered; half = 0 }
 
 pub record SaidClauses : Type 0 where
+  -- the paper's numbers, one for each refusal
+  pub numbers :
+      map number (
+      Refusal.ShortStore ∷ Refusal.BadState ∷ Refusal.BadSize ∷ Refusal.NoTableNumber ∷ Refusal.BadCrc ∷ Refusal.OtherProtocol ∷
+      Refusal.NoTable ∷ Refusal.CutShort ∷ Refusal.ZeroBits ∷ Refusal.OutOfLimits ∷ Refusal.BadRevision ∷ Refusal.TooManySections ∷
+      Refusal.OtherLast ∷ Refusal.NoChannelNumber ∷ Refusal.NotLive ∷ Refusal.Unreadable ∷ Refusal.NotDefined ∷ Refusal.NoRecord ∷
+      Refusal.NoCarrier ∷ Refusal.OutOfReach ∷ Refusal.NoMode ∷ [])
+      ≡ 1 ∷ 2 ∷ 3 ∷ 4 ∷ 5 ∷ 6 ∷ 7 ∷ 8 ∷ 9 ∷ 10 ∷ 11 ∷ 12 ∷ 13 ∷ 14 ∷ 15 ∷ 16 ∷ 17 ∷ 18 ∷ 19 ∷ 20 ∷ 21 ∷ []
+  -- what the code answers, so told: an answer, or its refusal's number; and a refusal leaves what is held and the state as they were
+  pub told_right : by_number {A = ℕ} (Ok 7) ≡ right 7
+  pub told_wrong : by_number {A = ℕ} (Err Refusal.OutOfReach) ≡ wrong 20
+  pub told_step :
+      stepped fresh_holding (Ok (record { answer = Answer.Repeat; holding = other }))
+      ≡ record { answer = right Answer.Repeat; holding = other }
+  pub told_step_refused :
+      map (λ h. stepped h (Err Refusal.OtherLast)) (fresh_holding ∷ other ∷ [])
+      ≡ record { answer = wrong 13; holding = fresh_holding } ∷ record { answer = wrong 13; holding = other } ∷ []
+  pub told_offer :
+      outcome (fresh 1 english) (Ok (record { answer = Answer.Live 5; state = fresh 2 english }))
+      ≡ record { answer = right (Answer.Live 5); state = fresh 2 english }
+  pub told_offer_refused :
+      map (λ s. outcome s (Err Refusal.BadCrc)) (fresh 1 english ∷ fresh 2 english ∷ [])
+      ≡ record { answer = wrong 5; state = fresh 1 english } ∷ record { answer = wrong 5; state = fresh 2 english } ∷ []
   pub refusals :
-      read_said (Read.Refused 3) ∷ asked_said (Asked.Refused 4) ∷ answer_said (Answer.Refused 5) ∷ tuned_said (Tuned.Refused 6)
-      ∷ label_said (Labelled.Refused 7) ∷ []
+      read_said (wrong 3) ∷ asked_said (wrong 4) ∷ answer_said (wrong 5) ∷ tuned_said (wrong 6)
+      ∷ label_said (wrong 7) ∷ []
       ≡ map (λ n. record { refusal = n; word = "refusal"; values = [] }) (3 ∷ 4 ∷ 5 ∷ 6 ∷ 7 ∷ [])
   pub reads :
       map
       (λ t.
       read_said
-      (Read.Right
+      (right
       (record {
         table = t;
         map = 258;
@@ -43,23 +74,23 @@ pub record SaidClauses : Type 0 where
       (Cds ∷ Mms ∷ Vcm ∷ Dcm ∷ Ntt ∷ [])
       ≡ map (λ t. record { refusal = 0; word = "reads right"; values = t ∷ 258 ∷ 0x65 ∷ 0x6E ∷ 0x67 ∷ 5 ∷ 1 ∷ 3 ∷ 19 ∷ [] }) (0 ∷ 1 ∷ 2 ∷ 3 ∷ 4 ∷ [])
   pub asked :
-      map asked_said (Asked.Absent ∷ Asked.There 9 2 ∷ [])
+      map asked_said (right None ∷ right (Some (part 9 2)) ∷ [])
       ≡ record { refusal = 0; word = "none"; values = [] } ∷ record { refusal = 0; word = "part"; values = 9 ∷ 2 ∷ [] } ∷ []
   pub answers :
-      map answer_said (Answer.OtherMap ∷ Answer.Repeat ∷ Answer.Stored 2 ∷ Answer.Live 31 ∷ [])
+      map answer_said (right Answer.OtherMap ∷ right Answer.Repeat ∷ right (Answer.Stored 2) ∷ right (Answer.Live 31) ∷ [])
       ≡ record { refusal = 0; word = "other map"; values = [] }
       ∷ record { refusal = 0; word = "repeat"; values = [] }
       ∷ record { refusal = 0; word = "stored"; values = 2 ∷ [] }
       ∷ record { refusal = 0; word = "live"; values = 31 ∷ [] }
       ∷ []
   pub digital :
-      tuned_said (Tuned.Digital 1 0 63000 3 (record { system = 2; inner = 15; split = 4; format = 8; symbols = 5056941 }))
+      tuned_said (right (Tuned.Digital 1 0 63000 3 (record { system = 2; inner = 15; split = 4; format = 8; symbols = 5056941 })))
       ≡ record { refusal = 0; word = "digital"; values = 63000 ∷ 3 ∷ 2 ∷ 15 ∷ 4 ∷ 8 ∷ 5056941 ∷ 0 ∷ 1 ∷ [] }
-  pub analogue : tuned_said (Tuned.Analogue 1 0 63000 4 5) ≡ record { refusal = 0; word = "analogue"; values = 63000 ∷ 4 ∷ 5 ∷ 0 ∷ 1 ∷ [] }
-  pub application : tuned_said (Tuned.Application 1 0 7) ≡ record { refusal = 0; word = "application"; values = 7 ∷ 0 ∷ 1 ∷ [] }
+  pub analogue : tuned_said (right (Tuned.Analogue 1 0 63000 4 5)) ≡ record { refusal = 0; word = "analogue"; values = 63000 ∷ 4 ∷ 5 ∷ 0 ∷ 1 ∷ [] }
+  pub application : tuned_said (right (Tuned.Application 1 0 7)) ≡ record { refusal = 0; word = "application"; values = 7 ∷ 0 ∷ 1 ∷ [] }
   -- request 2026-01: where the name stands in the store, then how many bytes it has
   pub labels :
-      map label_said (Labelled.Named 32781 3 ∷ Labelled.Fallback ∷ [])
+      map label_said (right (Labelled.Named 32781 3) ∷ right Labelled.Fallback ∷ [])
       ≡ record { refusal = 0; word = "name"; values = 32781 ∷ 3 ∷ [] } ∷ record { refusal = 0; word = "fallback"; values = [] } ∷ []
   -- the five questions, in these terms
   pub to_section : section_said plant_dcm ≡ record { refusal = 0; word = "reads right"; values = 3 ∷ 258 ∷ 0 ∷ 0 ∷ 0 ∷ 5 ∷ 0 ∷ 0 ∷ 13 ∷ [] }
@@ -77,18 +108,18 @@ pub record SaidClauses : Type 0 where
       ≡ record { refusal = 15; word = "refusal"; values = [] } ∷ record { refusal = 14; word = "refusal"; values = [] } ∷ []
   -- what a label tells: the refusal, the name's bytes wherever they stand, or that it is the fallback
   pub told :
-      map (told_label (hex "01 02 03 04")) (Labelled.Refused 17 ∷ Labelled.Named 1 2 ∷ Labelled.Named 0 4 ∷ Labelled.Fallback ∷ [])
+      map (told_label (hex "01 02 03 04")) (wrong 17 ∷ right (Labelled.Named 1 2) ∷ right (Labelled.Named 0 4) ∷ right Labelled.Fallback ∷ [])
       ≡ refused 17 ∷ name (hex "02 03") ∷ name (hex "01 02 03 04") ∷ lent ∷ []
   -- the answer of a version that goes live; the frequency that the tuner is sent to, of a digital and an analogue channel and of no other
   pub goes_live :
-      map (λ a. as_number (is_going_live a)) (Answer.Refused 5 ∷ Answer.OtherMap ∷ Answer.Repeat ∷ Answer.Stored 1 ∷ Answer.Live 5 ∷ [])
+      map (λ a. as_number (is_going_live a)) (wrong 5 ∷ right Answer.OtherMap ∷ right Answer.Repeat ∷ right (Answer.Stored 1) ∷ right (Answer.Live 5) ∷ [])
       ≡ 0 ∷ 0 ∷ 0 ∷ 0 ∷ 1 ∷ []
   pub sent_to :
       map khz_of
-      (Tuned.Refused 20
-      ∷ Tuned.Digital 1 0 63000 3 (record { system = 2; inner = 15; split = 4; format = 8; symbols = 5056941 })
-      ∷ Tuned.Analogue 1 0 57000 4 5
-      ∷ Tuned.Application 1 0 7
+      (wrong 20
+      ∷ right (Tuned.Digital 1 0 63000 3 (record { system = 2; inner = 15; split = 4; format = 8; symbols = 5056941 }))
+      ∷ right (Tuned.Analogue 1 0 57000 4 5)
+      ∷ right (Tuned.Application 1 0 7)
       ∷ [])
       ≡ none ∷ some 63000 ∷ some 57000 ∷ none ∷ []
   -- the numbers that each can give: 3 to 11; 1 to 13; 1, 2 and 14 to 21; 1, 2 and 14 to 18
@@ -109,6 +140,13 @@ pub said-clauses : SaidClauses
 unfolding computed swept khz_of
 said-clauses =
     record {
+      numbers = refl;
+      told_right = refl;
+      told_wrong = refl;
+      told_step = refl;
+      told_step_refused = refl;
+      told_offer = refl;
+      told_offer_refused = refl;
       refusals = refl;
       reads = refl;
       asked = refl;

@@ -9,14 +9,14 @@ use lib.Dec.{leb, ltb, eqb, lit<}
 use lib.ListN.{length, replicate}
 use borrow.Author.Tests.{leb-true, eqb-true, ltb-false}
 use Rattle.rules.specs.Bytes.{byte}
-use Rattle.rules.specs.Section.{ReadingOf, wrong, right, length_of}
+use Rattle.rules.specs.Section.{wrong, right, length_of}
 use Rattle.rules.specs.Steps.{fresh_holding, holding_formed}
 use Rattle.rules.specs.Formed.{Formed}
 use Rattle.rules.specs.Gathering.{Collector, BoxOf, place_of, store_size, section_at, live_at, answers, run}
 use Rattle.rules.specs.Offering.{Promised, Wanted, NoneOther}
 use Rattle.rules.specs.declared.Holding.{Holding}
 use Rattle.rules.specs.declared.Revision.{Revision}
-use Rattle.rules.specs.declared.Answer.TheVariants.{Refused, OtherMap, Repeat, Stored, Live}
+use Rattle.rules.specs.declared.Answer.TheVariants.{OtherMap, Repeat, Stored, Live}
 use Rattle.rules.proofs.Hex.{hex}
 use Rattle.rules.proofs.Computed.{computed}
 use Rattle.rules.proofs.Truths.{both_left, both_right}
@@ -24,6 +24,7 @@ use Rattle.rules.proofs.Right.{one_right, not_right}
 use Rattle.rules.proofs.{Formed.formed, Formed.forms}
 use Rattle.rules.proofs.Lawful.{Fits, Lawful}
 use Rattle.rules.proofs.Gathers.{Gathers, gathers}
+use Rattle.rules.specs.Refusals.{OrRefused}
 
 -- ---- its tables, states and contents
 
@@ -51,7 +52,7 @@ page s =
       revision = record { version = byte 4 s % 32; number = byte 5 s; last = byte 6 s };
     }
 
-unfoldable pub read_page : List ℕ → ReadingOf Page
+unfoldable pub read_page : List ℕ → OrRefused Page
 read_page s = cond (page_fits s) (cond (ltb (byte 6 s) (byte 5 s)) (wrong 11) (right (page s))) (wrong 3)
 
 unfoldable pub other_page : OneState → Page → Bool
@@ -149,7 +150,7 @@ pub record SecondComputed : Type 0 where
       ∷ hex "01 00 04 07 06 00 06"
       ∷ hex "01 00 04 07 06 00 00"
       ∷ [])
-      ≡ Stored 5 ∷ OtherMap ∷ Repeat ∷ Stored 4 ∷ Refused 12 ∷ Live 6 ∷ []
+      ≡ right (Stored 5) ∷ right OtherMap ∷ right Repeat ∷ right (Stored 4) ∷ wrong 12 ∷ right (Live 6) ∷ []
   -- which section is live: the first since its gathering began. Version 5 is gathered, dropped for 6, and begun again; of its number 0 four came
   pub first_since :
       (let b = run second (fresh_second 49152)
@@ -163,7 +164,7 @@ pub record SecondComputed : Type 0 where
       ∷ []) in
       section_at second b.store (live_at second b.state only 0) ∷ section_at second b.store (live_at second b.state only 1) ∷ [])
       ≡ hex "01 00 05 07 05 00 01 CC" ∷ hex "01 00 05 07 05 01 01 EE" ∷ []
-  pub short : answers second (fresh_second 49151) (hex "01 00 04 07 06 00 00" ∷ []) ≡ Refused 1 ∷ []
+  pub short : answers second (fresh_second 49151) (hex "01 00 04 07 06 00 00" ∷ []) ≡ wrong 1 ∷ []
 
 pub second-computed : SecondComputed
 unfolding computed page_fits page read_page other_page

@@ -21,13 +21,13 @@ use Rattle.rules.specs.declared.Signal.TheVariants.{Digital, Analogue}
 use Rattle.rules.specs.declared.Range.{Range}
 use Rattle.rules.specs.declared.Revision.{Revision}
 use Rattle.rules.specs.Lineup.{text}
-use Rattle.rules.specs.declared.Read.TheVariants as Read
-use Rattle.rules.specs.declared.Asked.TheVariants as Asked
 use Rattle.rules.proofs.Hex.{hex}
 use Rattle.rules.proofs.Examples.{carriers, modes, channels, ranges}
 use Rattle.examples.proofs.Plants.{plant_cds, plant_mms, plant_vcm, plant_dcm}
 use Rattle.examples.proofs.Sweeps.{swept, sweep, answered, as_number, halves, holding}
 use Rattle.rules.proofs.Computed.{computed}
+use Rattle.rules.specs.Section.{part}
+use Rattle.std.specs.Prelude.{Some, None}
 
 -- what the plant with another value in every field says
 abbrev plant_carriers : List (Numbered Carriers)
@@ -178,23 +178,23 @@ pub record SectionFields : Type 0 where
   pub every_length : sweep 256 (λ b. as_number (dcm_head_zeros (0 ∷ 0 ∷ b ∷ []))) ≡ holding 128 128 1
   pub every_range : sweep 256 (λ b. (range_of (b ∷ [])).defined) ≡ halves 128 1
   -- ---- what the reader answers: the refusal, or the head, of each table, with descriptors in front of the closing list and in it
-  pub head_refused : read_as (hex "C2 30 0F") (wrong 3) ≡ Read.Refused 3
+  pub head_refused : read_as (hex "C2 30 0F") (wrong 3) ≡ wrong 3
   pub head_carriers :
       read_as plant_cds (behind plant_cds)
-      ≡ Read.Right (record { table = Cds; map = 0; language = no_language; revision = revision5; closing = 19 })
+      ≡ right (record { table = Cds; map = 0; language = no_language; revision = revision5; closing = 19 })
   pub head_modes :
       read_as plant_mms (behind plant_mms)
-      ≡ Read.Right (record { table = Mms; map = 0; language = no_language; revision = revision5; closing = 21 })
+      ≡ right (record { table = Mms; map = 0; language = no_language; revision = revision5; closing = 21 })
   pub head_channels :
       read_as plant_vcm (behind plant_vcm)
-      ≡ Read.Right (record { table = Vcm; map = 0x0102; language = no_language; revision = revision5; closing = 46 })
+      ≡ right (record { table = Vcm; map = 0x0102; language = no_language; revision = revision5; closing = 46 })
   pub head_ranges :
       read_as plant_dcm (behind plant_dcm)
-      ≡ Read.Right (record { table = Dcm; map = 0x0102; language = no_language; revision = revision5; closing = 13 })
+      ≡ right (record { table = Dcm; map = 0x0102; language = no_language; revision = revision5; closing = 13 })
   -- ---- the descriptor question: the body of the first of a tag, behind others, as a part of the section
   pub asked :
       map (λ tag. asked_of tag asked_section (behind asked_section)) (0x93 ∷ 0x80 ∷ 0x81 ∷ 0x82 ∷ [])
-      ≡ Asked.There 13 4 ∷ Asked.There 9 2 ∷ Asked.There 19 0 ∷ Asked.Absent ∷ []
+      ≡ right (Some (part 13 4)) ∷ right (Some (part 9 2)) ∷ right (Some (part 19 0)) ∷ right None ∷ []
   pub asked_parts :
       map (λ tag. part_of asked_section (asked_of tag asked_section (behind asked_section))) (0x93 ∷ 0x80 ∷ 0x81 ∷ 0x82 ∷ [])
       ≡ hex "E5 00 00 FF" ∷ hex "AA BB" ∷ [] ∷ [] ∷ []

@@ -23,6 +23,7 @@ use Rattle.rules.proofs.Hex.{hex}
 use Rattle.examples.proofs.Sweeps.{swept, answered, counting, as_number}
 use Rattle.rules.proofs.Computed.{computed}
 use Rattle.examples.proofs.HoldingClauses.{live, holding, all_tables, revised, eng}
+use Rattle.rules.specs.Refusals.{wrong, right}
 
 -- version 5 with last 0 live in half 0, of each table
 abbrev pub live5 : State
@@ -89,52 +90,52 @@ pub record TuningClauses : Type 0 where
   pub seventeen : map (λ n. as_number (defined (range_at 7 (hex "83") ++ range_at 8 (hex "04")) n)) (counting 6 7) ≡ 0 ∷ 1 ∷ 1 ∷ 1 ∷ 0 ∷ 0 ∷ 0 ∷ []
   pub seventeen_order :
       map (look_up (small (eight 3 1))) (6 ∷ 7 ∷ 8 ∷ 9 ∷ 10 ∷ [])
-      ≡ Tuned.Refused 17 ∷ Tuned.Refused 18 ∷ Tuned.Digital 0 0 57000 3 c12 ∷ Tuned.Refused 18 ∷ Tuned.Refused 17 ∷ []
+      ≡ wrong 17 ∷ wrong 18 ∷ right (Tuned.Digital 0 0 57000 3 c12) ∷ wrong 18 ∷ wrong 17 ∷ []
   -- 19: reference 0, also where a record has index 0, and no carrier; each carrier of a record
   pub nineteen :
       map (λ carrier. look_up (small (eight_analogue carrier)) 8) (0 ∷ 2 ∷ 3 ∷ 4 ∷ 5 ∷ 6 ∷ [])
-      ≡ Tuned.Refused 19
-      ∷ Tuned.Refused 19
-      ∷ Tuned.Analogue 0 0 57000 2 0
-      ∷ Tuned.Analogue 0 0 63000 2 0
-      ∷ Tuned.Analogue 0 0 69000 2 0
-      ∷ Tuned.Refused 19
+      ≡ wrong 19
+      ∷ wrong 19
+      ∷ right (Tuned.Analogue 0 0 57000 2 0)
+      ∷ right (Tuned.Analogue 0 0 63000 2 0)
+      ∷ right (Tuned.Analogue 0 0 69000 2 0)
+      ∷ wrong 19
       ∷ []
   pub nineteen_zero :
       look_up (record { carriers = carriers_at 0 (hex "03 80 30 81 C8"); modes = []; channels = eight_analogue 0; ranges = range_at 7 (hex "83"); names = [] }) 8
-      ≡ Tuned.Refused 19
+      ≡ wrong 19
   -- reference 1 is the lowest that there is
   pub nineteen_one :
       look_up (record { carriers = carriers_at 1 (hex "01 80 30 81 C8"); modes = []; channels = eight_analogue 1; ranges = range_at 7 (hex "83"); names = [] }) 8
-      ≡ Tuned.Analogue 0 0 57000 2 0
-  pub nineteen_first : look_up (small (eight 0 0)) 8 ≡ Tuned.Refused 19
+      ≡ right (Tuned.Analogue 0 0 57000 2 0)
+  pub nineteen_first : look_up (small (eight 0 0)) 8 ≡ wrong 19
   -- 20: both ends, by one kHz
   pub twenty : map (λ khz. as_number (in_reach khz)) (53999 ∷ 54000 ∷ 54001 ∷ 1001999 ∷ 1002000 ∷ 1002001 ∷ []) ≡ 0 ∷ 1 ∷ 1 ∷ 1 ∷ 1 ∷ 0 ∷ []
   -- 21: digital alone, reference 0, also where a record has index 0, and no record
-  pub twenty_one : map (λ mode. look_up (small (eight 3 mode)) 8) (0 ∷ 1 ∷ 2 ∷ []) ≡ Tuned.Refused 21 ∷ Tuned.Digital 0 0 57000 3 c12 ∷ Tuned.Refused 21 ∷ []
+  pub twenty_one : map (λ mode. look_up (small (eight 3 mode)) 8) (0 ∷ 1 ∷ 2 ∷ []) ≡ wrong 21 ∷ right (Tuned.Digital 0 0 57000 3 c12) ∷ wrong 21 ∷ []
   pub twenty_one_zero : map
       (λ mode. look_up (record { carriers = (small []).carriers; modes = mode_at 0; channels = eight 3 mode; ranges = (small []).ranges; names = [] }) 8)
       (0 ∷ 1 ∷ [])
-      ≡ Tuned.Refused 21 ∷ Tuned.Refused 21 ∷ []
+      ≡ wrong 21 ∷ wrong 21 ∷ []
   pub twenty_one_lower :
       look_up (record { carriers = (small []).carriers; modes = mode_at 2; channels = eight 3 1; ranges = (small []).ranges; names = [] }) 8
-      ≡ Tuned.Refused 21
+      ≡ wrong 21
   -- an application channel needs no carrier; path of all three kinds, and hidden, which is type 1 alone
   pub kinds :
       map (λ flags. look_up (small (channel_is (hex "00 08" ++ (flags ∷ hex "12 34 03 00 00 01")))) 8)
       (hex "00 01 02 20 21 10 11 30 80 81 A0 90")
-      ≡ Tuned.Digital 0 0 57000 0 c12
-      ∷ Tuned.Digital 1 0 57000 0 c12
-      ∷ Tuned.Digital 0 0 57000 0 c12
-      ∷ Tuned.Digital 0 1 57000 0 c12
-      ∷ Tuned.Digital 1 1 57000 0 c12
-      ∷ Tuned.Analogue 0 0 57000 0 0
-      ∷ Tuned.Analogue 1 0 57000 0 0
-      ∷ Tuned.Analogue 0 1 57000 0 0
-      ∷ Tuned.Application 0 0 0x1234
-      ∷ Tuned.Application 1 0 0x1234
-      ∷ Tuned.Application 0 1 0x1234
-      ∷ Tuned.Application 0 0 0x1234
+      ≡ right (Tuned.Digital 0 0 57000 0 c12)
+      ∷ right (Tuned.Digital 1 0 57000 0 c12)
+      ∷ right (Tuned.Digital 0 0 57000 0 c12)
+      ∷ right (Tuned.Digital 0 1 57000 0 c12)
+      ∷ right (Tuned.Digital 1 1 57000 0 c12)
+      ∷ right (Tuned.Analogue 0 0 57000 0 0)
+      ∷ right (Tuned.Analogue 1 0 57000 0 0)
+      ∷ right (Tuned.Analogue 0 1 57000 0 0)
+      ∷ right (Tuned.Application 0 0 0x1234)
+      ∷ right (Tuned.Application 1 0 0x1234)
+      ∷ right (Tuned.Application 0 1 0x1234)
+      ∷ right (Tuned.Application 0 0 0x1234)
       ∷ []
 
 pub tuning-clauses : TuningClauses

@@ -13,8 +13,10 @@ use Rattle.rules.specs.{Section.header_of, Section.in_front, declared.Table.Tabl
 use Rattle.rules.specs.declared.Table.TheVariants.{Cds, Mms, Vcm, Dcm, Ntt}
 use Rattle.rules.proofs.{Taken.unless-got, Taken.giving-got, Taken.taken-got, Places.byte-part, Places.from-from, Places.from-length}
 use Rattle.fields.specs.Outline.{header_size, header_says, behind_header, records_at, layout_of, outlined_as, fronted, outline_of}
-use Rattle.fields.specs.{declared.Outline.Outline, declared.Outlined.Outlined}
-use Rattle.fields.specs.declared.Outlined.TheVariants.{Refused, Records}
+use Rattle.std.specs.Prelude.{Result, Ok, Err}
+use Rattle.rules.specs.Refusals.{OrRefused, wrong, right, number, by_number}
+use Rattle.rules.specs.declared.Refusal.{Refusal}
+use Rattle.fields.specs.declared.Outline.{Outline}
 
 -- ---- the bytes of the header
 
@@ -51,12 +53,12 @@ laid Ntt = record { header = λ b. refl; zeros = zeros-are 8 (omega arith); lang
 
 module _ (b : List ℕ) where
   -- 0xC2 has its first index and its count in the header, and no head
-  refused-zero : (first : ℕ) → first ≡ byte 4 b → first ≡ 0 → Refused 10 ≡ outline_of Cds b
+  refused-zero : (first : ℕ) → first ≡ byte 4 b → first ≡ 0 → wrong 10 ≡ outline_of Cds b
   unfolding outline_of outlined_as fronted unless header_of counted_header
   refused-zero first e z = rw (header-byte 7 b 1 (omega arith), ← e, z)
 
   right-behind : (first count : ℕ) → first ≡ byte 4 b → count ≡ byte 5 b → (first ≡ 0 → ⊥)
-      → Records (record { at = 7; map = 0; first = first; count = count; included = 0 }) ≡ outline_of Cds b
+      → right (record { at = 7; map = 0; first = first; count = count; included = 0 }) ≡ outline_of Cds b
   unfolding outline_of outlined_as fronted in_front records_at taken unless giving header_of counted_header no_head
   right-behind first count e f n =
       rw (header-byte 7 b 1 (omega arith), header-byte 7 b 2 (omega arith), ← e, ← f, lt-ltb 0 first (omega arith), le-leb 0 (length (from b 7)) (omega arith))
@@ -69,14 +71,14 @@ module _ (b : List ℕ) where
       go (refused n) = refl
       go (got y rest) = refl
 
-  both : {r : Outlined} → r ≡ outline_of Cds b → (r ≡ outline_of Cds b) × (r ≡ outline_of Mms b)
+  both : {r : OrRefused Outline} → r ≡ outline_of Cds b → (r ≡ outline_of Cds b) × (r ≡ outline_of Mms b)
   both e = (e, e ∙ counted-alike)
 
-  pub counted-no : (first : ℕ) → first ≡ byte 4 b → first ≡ 0 → (Refused 10 ≡ outline_of Cds b) × (Refused 10 ≡ outline_of Mms b)
+  pub counted-no : (first : ℕ) → first ≡ byte 4 b → first ≡ 0 → (wrong 10 ≡ outline_of Cds b) × (wrong 10 ≡ outline_of Mms b)
   counted-no first e z = both (refused-zero first e z)
 
   pub counted-so : (first count : ℕ) → first ≡ byte 4 b → count ≡ byte 5 b → (first ≡ 0 → ⊥)
-      → let r = Records (record { at = 7; map = 0; first = first; count = count; included = 0 }) in
+      → let r : OrRefused Outline = right (record { at = 7; map = 0; first = first; count = count; included = 0 }) in
       (r ≡ outline_of Cds b) × (r ≡ outline_of Mms b)
   counted-so first count e f n = both (right-behind first count e f n)
 
@@ -87,7 +89,7 @@ module _ (b : List ℕ) where
 
 -- and a head behind it
 module _ (t : Table) (b : List ℕ) (fair : (form t).limits (header_says t b) ≡ true) where
-  pub head-no : (n : ℕ) → taken (form t).head (λ h. true) (from b (header_size t)) ≡ refused n → Refused n ≡ outline_of t b
+  pub head-no : (n : ℕ) → taken (form t).head (λ h. true) (from b (header_size t)) ≡ refused n → wrong n ≡ outline_of t b
   unfolding outline_of outlined_as fronted in_front unless giving
   head-no n e = rw (fair, (laid t).header b, e)
 
@@ -97,7 +99,7 @@ module _ (t : Table) (b : List ℕ) (fair : (form t).limits (header_says t b) �
 
   pub head-so : (h : (form t).Head) (rest : List ℕ) → taken (form t).head (λ h. true) (from b (header_size t)) ≡ got h rest
       → let y = (form t).joined (header_says t b) h in
-      Records (record {
+      right (record {
         at = header_size t + extent (form t).head (from b (header_size t));
         map = y.map;
         first = y.first;
@@ -108,7 +110,7 @@ module _ (t : Table) (b : List ℕ) (fair : (form t).limits (header_says t b) �
   unfolding outline_of outlined_as fronted in_front unless giving
   head-so h rest e =
       let y = (form t).joined (header_says t b) h in
-      rw (fair, (laid t).header b, e) (ap (λ (n : ℕ). Records (record { at = n; map = y.map; first = y.first; count = y.count; included = y.included }))
+      rw (fair, (laid t).header b, e) (ap (λ (n : ℕ). right (record { at = n; map = y.map; first = y.first; count = y.count; included = y.included }))
       (sym records-at))
 
 -- ---- what an outline says of the section
@@ -126,9 +128,9 @@ pub record Area (t : Table) (b : List ℕ) (o : Outline) : Type 0 where
   pub walked : records ((form t).layout front) front.count front.first (from b o.at)
       ≡ records (layout_of t o.included) o.count o.first (from b o.at)
 
-abbrev tells : Table → List ℕ → Outlined → Type 0
-tells t b (Refused n) = fronted t b ≡ refused n
-tells t b (Records o) = Area t b o
+abbrev tells : Table → List ℕ → OrRefused Outline → Type 0
+tells t b (wrong n) = fronted t b ≡ refused n
+tells t b (right o) = Area t b o
 
 module _ (t : Table) (b : List ℕ) (w : header_size t ≤ length b) where
   -- what a head leaves stands behind its bytes
@@ -167,9 +169,9 @@ module _ (t : Table) (b : List ℕ) (w : header_size t ≤ length b) where
   unfolding outline_of
   outline-tells = by_front (fronted t b) refl
 
-  module _ {r : Outlined} (o : r ≡ outline_of t b) where
-    pub no-area : {n : ℕ} → r ≡ Refused n → fronted t b ≡ refused n
-    no-area e = subst (λ (x : Outlined). tells t b x) (sym o ∙ e) outline-tells
+  module _ {r : Result Outline Refusal} (o : by_number r ≡ outline_of t b) where
+    pub no-area : {n : Refusal} → r ≡ Err n → fronted t b ≡ refused (number n)
+    no-area e = subst (λ (x : OrRefused Outline). tells t b x) (sym o ∙ ap by_number e) outline-tells
 
-    pub an-area : {a : Outline} → r ≡ Records a → Area t b a
-    an-area e = subst (λ (x : Outlined). tells t b x) (sym o ∙ e) outline-tells
+    pub an-area : {a : Outline} → r ≡ Ok a → Area t b a
+    an-area e = subst (λ (x : OrRefused Outline). tells t b x) (sym o ∙ ap by_number e) outline-tells

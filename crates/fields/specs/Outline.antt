@@ -4,8 +4,8 @@ use Rattle.std.specs.Prelude.{ℕ, ◌+◌, take}
 use mathlib.Core.{Bool.cond, List.List}
 use Rattle.rules.specs.Bytes.{Got, refused, got, unless, from}
 use Rattle.rules.specs.{Layout.extent, Layout.Layout, Form.Front, Form.no_language, Form.form, Section.header_of, Section.in_front, declared.Table.Table}
-use Rattle.fields.specs.declared.Outlined.{Outlined}
-use Rattle.fields.specs.declared.Outlined.TheVariants.{Refused, Records}
+use Rattle.rules.specs.Refusals.{OrRefused, wrong, right}
+use Rattle.fields.specs.declared.Outline.{Outline}
 
 -- bytes of the header: seven, and one more where a language stands in it (that it is so for every form: proofs/Outlines.antt)
 abbrev pub header_size : Table → ℕ
@@ -27,15 +27,15 @@ abbrev pub layout_of : (t : Table) → (included : ℕ) → Layout (form t).Row
 layout_of t included =
     (form t).layout (record { map = 0; language = no_language; first = 0; count = 0; included = included; splice = 0; time = 0 })
 
-unfoldable pub outlined_as : Table → List ℕ → Got Front → Outlined
-outlined_as t b (refused n) = Refused n
+unfoldable pub outlined_as : Table → List ℕ → Got Front → OrRefused Outline
+outlined_as t b (refused n) = wrong n
 outlined_as t b (got y rest) =
-    Records
+    right
     (record { at = records_at t b; map = y.map; first = y.first; count = y.count; included = y.included })
 
 -- the header's limits, else 10; then the head: 8, then 9
 unfoldable pub fronted : Table → List ℕ → Got Front
 fronted t b = unless ((form t).limits (header_says t b)) 10 (in_front (form t) (header_says t b) (behind_header t b))
 
-unfoldable pub outline_of : Table → List ℕ → Outlined
+unfoldable pub outline_of : Table → List ℕ → OrRefused Outline
 outline_of t b = outlined_as t b (fronted t b)

@@ -5,16 +5,14 @@
 ghost use Rattle.std.specs.Prelude.{◌≡◌};
 ghost use Rattle.rules.specs.Section.{check};
 
-use rules::Read;
-
 // Does this section read right? 0, or the number of the refusal, 3 to 11.
+#[tactic(auto, unfolding(rules::specs::Section::check, rules::specs::Section::check_of, rules::specs::Section::read_as))]
 #[unsafe(no_mangle)]
 pub extern "C" fn mofrindi_check_section(section: &[u8]) -> u32
     ensures { result ≡ check section.now }
 {
-    let read = section::read_section(section);
-    match read {
-        Read::Refused(n) => n as u32,
-        Read::Right(_) => 0,
+    match section::read_section(section) {
+        Ok(_) => 0,
+        Err(refusal) => refusal.number() as u32,
     }
 }

@@ -12,7 +12,8 @@ ghost use Rattle.printout.specs.Shown.{Shown};
 use printout::Printed;
 use std::io::Read;
 
-// The labels, in the two buffers, of an input that begins with `head`; the rest of it is read.
+// The labels, in the two buffers, of an input that begins with `head`; the rest of it is read. (The program `lineup` is like this one: rule,
+// length of the lines and words are each one's own, and what is left are two calls.)
 fn labels_of<R: Read>(
     reader: &mut R,
     head: &[u8],
@@ -38,22 +39,6 @@ fn labels_of<R: Read>(
     printout::print_labels(tally, store, heading, lines)
 }
 
-// Reads until the buffer is full, the input ends or a read fails: how many bytes there are at its front.
-fn read_full<R: Read>(reader: &mut R, buffer: &mut [u8]) -> usize
-    ensures in_bounds { result ≤ length buffer.new }
-    ensures front { result ≡ length (take result buffer.new) }
-{
-    let mut done = 0;
-    while done < buffer.len() {
-        let got = reader.read(&mut buffer[done..]).unwrap_or(0);
-        if got == 0 {
-            break;
-        }
-        done += got;
-    }
-    done
-}
-
 // Writes to standard output, and says so where that can't be done.
 fn write(rt: &(impl Print + Eprint), text: &[u8]) -> bool {
     if rt.write_all(text).is_ok() {
@@ -70,10 +55,13 @@ fn main(rt: HostRuntime) {
     let mut lines = [0u8; printout::LABELS];
     let mut map = [0u8; 2];
     let mut input = rt.stdin();
-    let got = read_full(&mut input, &mut map);
+    let head: &[u8] = match input.read_exact(&mut map) {
+        Ok(()) => &map,
+        Err(_) => &[],
+    };
     let printed = labels_of(
         &mut input,
-        &map[..got],
+        head,
         &mut store,
         &mut buffer,
         &mut heading,

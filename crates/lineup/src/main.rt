@@ -38,22 +38,6 @@ fn line_up<R: Read>(
     printout::print(tally, store, heading, lines)
 }
 
-// Reads until the buffer is full, the input ends or a read fails: how many bytes there are at its front.
-fn read_full<R: Read>(reader: &mut R, buffer: &mut [u8]) -> usize
-    ensures in_bounds { result ≤ length buffer.new }
-    ensures front { result ≡ length (take result buffer.new) }
-{
-    let mut done = 0;
-    while done < buffer.len() {
-        let got = reader.read(&mut buffer[done..]).unwrap_or(0);
-        if got == 0 {
-            break;
-        }
-        done += got;
-    }
-    done
-}
-
 // Writes to standard output, and says so where that can't be done.
 fn write(rt: &(impl Print + Eprint), text: &[u8]) -> bool {
     if rt.write_all(text).is_ok() {
@@ -70,10 +54,13 @@ fn main(rt: HostRuntime) {
     let mut lines = [0u8; printout::LINES];
     let mut map = [0u8; 2];
     let mut input = rt.stdin();
-    let got = read_full(&mut input, &mut map);
+    let head: &[u8] = match input.read_exact(&mut map) {
+        Ok(()) => &map,
+        Err(_) => &[],
+    };
     let printed = line_up(
         &mut input,
-        &map[..got],
+        head,
         &mut store,
         &mut buffer,
         &mut heading,

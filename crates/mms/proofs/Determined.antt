@@ -6,6 +6,8 @@ use types.Logic.{Logic}
 use prog.Memory.{Memory}
 use prog.Routine.{Routine}
 use Rattle.rules.proofs.Determined.{Determined, determined-by, determined-once}
+use mathlib.Core.Path.{sym, ◌∙◌}
+use Rattle.rules.proofs.Refusals.{by_number-once}
 use Rattle.fields.proofs.Laws.{stands-once}
 use Rattle.mms.specs.contracts.outline
 use Rattle.mms.specs.contracts.mode_of
@@ -13,7 +15,9 @@ use Rattle.mms.specs.contracts.past_modes
 
 module _ {M : Type 1} {𝓤 : Ura M} (𝓛 : Logic 𝓤) (mem : Memory → SProp 𝓤) (run : Routine → Fun 𝓤) where
   pub outline-determined : Determined 𝓤 {T = outline.ended} (outline.clauses 𝓛 mem run) (λ κs r e. r)
-  outline-determined = determined-by 𝓤 {T = outline.ended} (outline.clauses 𝓛 mem run) _ _ (λ κs a g r e. id⊢ 𝓤 _)
+  outline-determined =
+      determined-once 𝓤 {T = outline.ended} (outline.clauses 𝓛 mem run) _ _ (λ κs a g r e. id⊢ 𝓤 _)
+      (λ κs a g r r' e e' s t. by_number-once _ _ (s ∙ sym t))
 
   pub mode_of-determined : Determined 𝓤 {T = mode_of.ended} (mode_of.clauses 𝓛 mem run) (λ κs r e. r)
   mode_of-determined = determined-by 𝓤 {T = mode_of.ended} (mode_of.clauses 𝓛 mem run) _ _ (λ κs a g r e. id⊢ 𝓤 _)

@@ -1,29 +1,22 @@
--- The rows of the code and the rule of their field agree: one test, tried at every value that a byte can have, so at every value of the
--- field. The rows are taken from what is known of the search through them: they are written down in the code and nowhere else.
+-- The search through rows, in the rules' words.
 use Prim.Native.Nat.{ℕ, ◌<◌}
-use mathlib.Core.{Path.◌≡◌, Path.refl, Path.sym, List.List}
-use mathlib.Core.Bool.{Bool, true, false}
-use Rattle.rules.specs.{Tables.among, Tuning.every}
-use Rattle.rules.proofs.LivePlaces.{every-at}
+use lib.Dec.{leb}
+use mathlib.Core.{Path.◌≡◌, Path.refl, Path.◌∙◌, List.List, List.[], List.◌∷◌, Bool.Bool, Bool.true}
+use Rattle.std.specs.List.{list_any}
+use Rattle.std.specs.Prelude.{nat_eq}
+use Rattle.std.proofs.lemmas.Bool.{agree_below, agree_below_at}
+use Rattle.std.proofs.lemmas.Cmp.{nat_eq_equiv}
+use Rattle.rules.specs.Tables.{among}
 
-abbrev pub searched : {r : Bool} (x : ℕ) (rows : List ℕ) → r ≡ among x rows → List ℕ
-searched x rows e = rows
+any-among : (x : ℕ) (rows : List ℕ) → list_any (λ y. nat_eq y x) rows ≡ among x rows
+unfolding among
+any-among x [] = refl
+any-among x (y ∷ ys) = rw (nat_eq_equiv.symm x y, any-among x ys)
 
-abbrev alike : Bool → Bool → Bool
-alike true b = b
-alike false true = false
-alike false false = true
+pub among_any : (x : ℕ) (rows : List ℕ) {r : Bool} → r ≡ list_any (λ y. nat_eq y x) rows → r ≡ among x rows
+among_any x rows e = e ∙ any-among x rows
 
-alike_same : (a b : Bool) → alike a b ≡ true → a ≡ b
-alike_same true b e = sym e
-alike_same false false e = refl
-alike_same false true e = e
-
-abbrev tells : List ℕ → (ℕ → Bool) → ℕ → Bool
-tells rows rule x = alike (among x rows) (rule x)
-
-abbrev pub agree : List ℕ → (ℕ → Bool) → Bool
-agree rows rule = every 256 (tells rows rule)
-
-pub told : (rows : List ℕ) (rule : ℕ → Bool) → agree rows rule ≡ true → (x : ℕ) → x < 256 → among x rows ≡ rule x
-told rows rule e x h = alike_same (among x rows) (rule x) (every-at 256 (tells rows rule) e x h)
+-- the rows that are 0 to 24, tried at every value that a byte can have
+pub up_to_24 : (x : ℕ) (rows : List ℕ) {r : Bool} → r ≡ among x rows → x < 256 → agree_below (λ y. among y rows) (λ y. leb y 24) 256 ≡ true
+    → r ≡ leb x 24
+up_to_24 x rows e h a = e ∙ agree_below_at (λ y. among y rows) (λ y. leb y 24) 256 x a h

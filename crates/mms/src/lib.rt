@@ -1,17 +1,21 @@
 // The modulation table, MMS: its record, and the way over its records. b is a section without its CRC.
-#![tactic(auto)]
+#![tactic(auto, unfolding(crate::specs::Low::low, rules::specs::Tables::mms, rules::specs::Tables::mode_zeros, rules::specs::Tables::mode_of))]
 
-ghost use Rattle.std.specs.Prelude.{◌≡◌, true, ◌&&◌, ℕ, ◌+◌, ◌≤◌, ◌<◌, leb};
+ghost use Rattle.std.specs.Prelude.{◌≡◌, true, ◌&&◌, leb};
 ghost use Rattle.rules.specs.Bytes.{from};
-ghost use Rattle.rules.specs.Layout.{entry, records};
+ghost use Rattle.rules.specs.Layout.{records};
+ghost use Rattle.rules.specs.Refusals.{by_number};
 ghost use Rattle.rules.specs.Tables.{mode_zeros, mode_of, among, systems, inner_codings, assigned, mode_fair, mms};
+ghost use Rattle.rules.specs.declared.Mode.{Mode};
 ghost use Rattle.rules.specs.declared.Table.TheVariants as table;
-ghost use Rattle.fields.specs.Place.{Stands, Reaches};
+ghost use Rattle.fields.specs.Place.{Stands};
 ghost use Rattle.fields.specs.Outline.{outline_of};
-ghost use Rattle.fields.specs.declared.Skip.TheVariants as skip;
+ghost use Rattle.mms.specs.Low.{low, low_limited};
+ghost use Rattle.rules.proofs.Limits.{mms_limited};
 
-use fields::{Outline, Outlined, Skip};
-use rules::Mode;
+use fields::Outline;
+use fields::records::Records;
+use rules::{Mode, Refusal};
 
 pub mod rows; // the assigned values, as the standard lists them
 
@@ -19,8 +23,8 @@ pub mod rows; // the assigned values, as the standard lists them
 pub const SIZE: usize = 6;
 
 // Where the records of a section stand, and from which index: right behind the header, which has the first index and the count.
-pub fn outline(b: &[u8]) -> Outlined
-    ensures { result ≡ outline_of table.Mms b.now }
+pub fn outline(b: &[u8]) -> Result<Outline, Refusal>
+    ensures { by_number result ≡ outline_of table.Mms b.now }
 {
     fields::counted_outline(b)
 }
@@ -29,12 +33,7 @@ pub fn outline(b: &[u8]) -> Outlined
 fn mode_zeros(r: &[u8]) -> bool
     ensures { result ≡ mode_zeros r.now }
 {
-    let format = fields::byte(r, 1);
-    let symbols = fields::byte(r, 2);
-    if format / 32 % 4 != 0 {
-        return false;
-    }
-    symbols / 16 == 0
+    fields::byte(r, 1) / 32 % 4 == 0 && fields::byte(r, 2) / 16 == 0
 }
 
 // What the record with these bytes says.
@@ -52,29 +51,22 @@ pub fn mode_of(r: &[u8]) -> Mode
         inner: codings % 16,
         split: format / 128,
         format: format % 32,
-        symbols: (s3 % 16) as u32 * 16777216 + s2 as u32 * 65536 + s1 as u32 * 256 + s0 as u32,
+        symbols: u32::from_be_bytes([s3 % 16, s2, s1, s0]),
     }
 }
 
-// Whether x is one of the rows: left at the first match. Counting down what is left, and not up to the end, is the form of which the
-// compiler makes one comparison or a test of bits where it knows the rows.
+// Whether x is one of the rows. Where the compiler knows them it makes one comparison or a test of bits of it.
+#[tactic(auto, using(crate::proofs::Laws::among_any))]
 fn among(rows: &[u8], x: u8) -> bool
     ensures { result ≡ among x rows.now }
 {
-    let mut at: usize = 0;
-    let mut left = rows.len();
-    while 0 < left {
-        if rows[at] == x {
-            return true;
-        }
-        at += 1;
-        left -= 1;
-    }
-    false
+    rows.contains(&x)
 }
 
-// Each list is taken into a local once and lent: its name stands for a copy wherever it is written.
+// Each list is taken into a local and lent: the compiler looks through a local, and not through a list that is lent where it stands (that takes
+// three times the instructions).
 
+#[tactic(auto, unfolding(rules::specs::Tables::systems))]
 fn system_assigned(x: u8) -> bool
     ensures { result ≡ among x systems }
 {
@@ -82,6 +74,7 @@ fn system_assigned(x: u8) -> bool
     among(&rows, x)
 }
 
+#[tactic(auto, unfolding(rules::specs::Tables::inner_codings))]
 fn inner_assigned(x: u8) -> bool
     ensures { result ≡ among x inner_codings }
 {
@@ -89,6 +82,7 @@ fn inner_assigned(x: u8) -> bool
     among(&rows, x)
 }
 
+#[tactic(auto, using(crate::proofs::Laws::up_to_24), unfolding(rules::specs::Tables::among))]
 fn format_assigned(x: u8) -> bool
     ensures { result ≡ leb x 24 }
 {
@@ -96,124 +90,109 @@ fn format_assigned(x: u8) -> bool
     among(&rows, x)
 }
 
-// System, inner coding and format (Tables 5.7 to 5.9 of 003) are assigned, and the index is at most 255: else 10.
+// System, inner coding and format are assigned (Tables 5.7 to 5.9 of 003).
+#[tactic(auto, unfolding(rules::specs::Tables::assigned))]
+fn is_known(m: Mode) -> bool
+    ensures { result ≡ assigned m }
+{
+    system_assigned(m.system) && inner_assigned(m.inner) && format_assigned(m.format)
+}
+
+// Its values are assigned, and the index is at most 255: else 10.
+#[tactic(auto, unfolding(rules::specs::Tables::mode_fair))]
 fn mode_fair(index: u16, m: Mode) -> bool
     ensures { result ≡ mode_fair index m }
 {
-    if system_assigned(m.system) {
-        if inner_assigned(m.inner) {
-            if format_assigned(m.format) {
-                return index <= 255;
-            }
-            return false;
-        }
-        return false;
-    }
-    false
+    is_known(m) && index <= 255
 }
 
-// The place behind the record at a place, which takes the given index, and behind its descriptors; or 8, 9, 10.
-fn mode_step(b: &[u8], at: usize, index: u16) -> Skip
-    ensures { Stands b.now result (entry mms index (from b.now at)) }
-{
-    if fields::short(b, at, SIZE) {
-        return Skip::Refused(8);
-    }
-    let r = &b[at..at + SIZE];
-    if mode_zeros(r) {
-        if mode_fair(index, mode_of(r)) {
-            return fields::past_counted(b, at + SIZE, true);
-        }
-        return Skip::Refused(10);
-    }
-    Skip::Refused(9)
-}
-
-// Whether a record's zero bits are 0 and its values are assigned, by the bytes as they stand.
+// Whether a record's zero bits are 0 and its values are assigned, by the bytes as they stand: the zero bits and the format at once.
+#[tactic(auto, unfolding(rules::specs::Tables::mode_zeros, rules::specs::Tables::mode_of, rules::specs::Tables::assigned))]
 fn is_assigned(r: &[u8]) -> bool
     ensures { result ≡ true → (mode_zeros r.now && assigned (mode_of r.now)) ≡ true }
 {
     let codings = fields::byte(r, 0);
-    let format = fields::byte(r, 1);
-    let symbols = fields::byte(r, 2);
-    if 15 < symbols {
-        return false;
-    }
-    if system_assigned(codings / 16) {
-        if inner_assigned(codings % 16) {
-            // the zero bits and the format at once
-            return format_assigned(format % 128);
-        }
-    }
-    false
+    fields::byte(r, 2) <= 15
+        && system_assigned(codings / 16)
+        && inner_assigned(codings % 16)
+        && format_assigned(fields::byte(r, 1) % 128)
 }
 
-// Whether the record at a place is right, at whatever index it may have, and has no descriptors.
-fn is_plain(b: &[u8], at: usize) -> bool
-    ensures { result ≡ true → (index : ℕ) → index ≤ 255 → Stands b.now (skip.At (at + 6 + 1)) (entry mms index (from b.now at)) }
-{
-    if fields::short(b, at, SIZE + 1) {
-        return false;
+// The layout of the table, asked of bytes.
+#[derive(Clone, Copy)]
+pub struct Mms;
+
+impl Records for Mms {
+    ghost Row = { Mode };
+
+    ghost layout = { λ s. mms };
+
+    fn size(&self, b: &[u8], at: usize) -> usize {
+        SIZE
     }
-    if b[at + SIZE] != 0 {
-        return false;
+
+    fn zeros(&self, r: &[u8]) -> bool {
+        mode_zeros(r)
     }
-    is_assigned(&b[at..at + SIZE])
+
+    fn fair(&self, index: u16, r: &[u8]) -> bool {
+        mode_fair(index, mode_of(r))
+    }
+
+    fn takes(&self, r: &[u8]) -> u16 {
+        1
+    }
+
+    fn described(&self) -> bool {
+        true
+    }
+
+    ghost limited = { λ s. mms_limited };
 }
 
-// Over the records that are right and have no descriptors, as far as they go: the short way for what a plant mostly sends. A section that
-// goes past index 255 is refused: that is left to the other way.
-fn skim(b: &[u8], o: Outline) -> Outline
-    requires { 0 < o.count }
-    ensures { Reaches mms b.now o.at o.first o.count result.at result.first result.count }
-{
-    if 256 < o.first as u32 + o.count as u32 {
-        return o;
+// The layout of records whose indices are all at most 255: most sections have no other, and a walk that compares no index takes a tenth fewer
+// instructions.
+struct Low;
+
+impl Records for Low {
+    ghost Row = { Mode };
+
+    ghost layout = { λ s. low };
+
+    fn size(&self, b: &[u8], at: usize) -> usize {
+        Mms.size(b, at)
     }
-    let mut at = o.at;
-    let mut index = o.first;
-    let mut left = o.count;
-    while 0 < left {
-        if !is_plain(b, at) {
-            break;
-        }
-        index = index + 1;
-        at = at + SIZE + 1;
-        left -= 1;
+
+    fn zeros(&self, r: &[u8]) -> bool {
+        Mms.zeros(r)
     }
-    Outline {
-        at,
-        map: o.map,
-        first: index,
-        count: left,
-        included: o.included,
+
+    fn fair(&self, index: u16, r: &[u8]) -> bool {
+        is_known(mode_of(r))
     }
+
+    fn is_right(&self, index: u16, r: &[u8]) -> bool {
+        is_assigned(r)
+    }
+
+    fn takes(&self, r: &[u8]) -> u16 {
+        0
+    }
+
+    fn described(&self) -> bool {
+        Mms.described()
+    }
+
+    ghost limited = { λ s. low_limited };
 }
 
-// The place behind the records of an outline; or 8, 9, 10. The short way first, and from where that stops record by record.
-// With no record there is nothing to refuse: the outline's place, or the end where it lies behind it.
-pub fn past_modes(b: &[u8], o: Outline) -> Skip
+// The place behind the records of an outline; or 8, 9, 10.
+#[tactic(auto, using(crate::proofs::Indices::stands_low))]
+pub fn past_modes(b: &[u8], o: Outline) -> Result<usize, Refusal>
     ensures { Stands b.now result (records mms o.count o.first (from b.now o.at)) }
 {
-    if o.count == 0 {
-        return fields::past_counted(b, o.at, false);
+    if o.first as u32 + o.count as u32 <= 256 {
+        return fields::records::past_records(&Low, b, o);
     }
-    let reached = skim(b, o);
-    let mut at = reached.at;
-    let mut index = reached.first;
-    let mut left = reached.count;
-    while 0 < left {
-        let next = mode_step(b, at, index);
-        match next {
-            Skip::At(i) => {
-                index = index + 1;
-                at = i;
-                left -= 1;
-            }
-            Skip::Refused(n) => {
-                return Skip::Refused(n);
-            }
-        }
-    }
-    Skip::At(at)
+    fields::records::past_records(&Mms, b, o)
 }

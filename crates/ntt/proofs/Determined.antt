@@ -8,6 +8,7 @@ use types.Logic.{Logic}
 use prog.Memory.{Memory}
 use prog.Routine.{Routine}
 use Rattle.rules.proofs.Determined.{Determined, determined-by, determined-once, both_say}
+use Rattle.rules.proofs.Refusals.{by_number-once}
 use Rattle.fields.proofs.Laws.{stands-once}
 use Rattle.ntt.specs.contracts.good_text
 use Rattle.ntt.specs.contracts.name_size
@@ -34,7 +35,9 @@ module _ {M : Type 1} {𝓤 : Ura M} (𝓛 : Logic 𝓤) (mem : Memory → SProp
       (λ κs a g r r' e e' s t. stands-once _ r r' _ s t)
 
   pub outline-determined : Determined 𝓤 {T = outline.ended} (outline.clauses 𝓛 mem run) (λ κs r e. r)
-  outline-determined = determined-by 𝓤 {T = outline.ended} (outline.clauses 𝓛 mem run) _ _ (λ κs a g r e. id⊢ 𝓤 _)
+  outline-determined =
+      determined-once 𝓤 {T = outline.ended} (outline.clauses 𝓛 mem run) _ _ (λ κs a g r e. id⊢ 𝓤 _)
+      (λ κs a g r r' e e' s t. by_number-once _ _ (s ∙ sym t))
 
   pub language_of-determined : Determined 𝓤 {T = language_of.ended} (language_of.clauses 𝓛 mem run) (λ κs r e. r)
   language_of-determined = determined-by 𝓤 {T = language_of.ended} (language_of.clauses 𝓛 mem run) _ _ (λ κs a g r e. id⊢ 𝓤 _)

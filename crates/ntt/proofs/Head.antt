@@ -7,11 +7,11 @@ use Rattle.rules.specs.{Bytes.byte, Bytes.from, Tables.ntt_head, Form.name_heade
 use Rattle.rules.specs.declared.Language.{Language}
 use Rattle.rules.specs.declared.Table.TheVariants.{Ntt}
 use Rattle.fields.specs.Outline.{header_says, outline_of}
-use Rattle.fields.specs.declared.Outlined.TheVariants.{Records}
+use Rattle.rules.specs.Refusals.{right}
 use Rattle.fields.proofs.{Laws.taken_here, Outlines.header-byte, Outlines.head-so}
 
 pub behind-head : (b : List ℕ) (count : ℕ) → 1 ≤ length b - 8 → count ≡ byte 0 (take 1 (from b 8))
-    → Records (record { at = 9; map = 0; first = 0; count = count; included = 0 }) ≡ outline_of Ntt b
+    → right (record { at = 9; map = 0; first = 0; count = count; included = 0 }) ≡ outline_of Ntt b
 unfolding ntt_head
 behind-head b count n e = rw e (head-so Ntt b refl (byte 0 (take 1 (from b 8))) _ (taken_here ntt_head (λ h. true) b 8 n refl refl))
 

@@ -1,4 +1,3 @@
 pub mod Texts
-pub mod Onward
 pub mod Head
 pub mod Determined

@@ -1,19 +1,22 @@
 // The network text table, NTT: the text rule of 003, section 7.1, its name record, and the way over its records. b is a section
 // without its CRC.
-#![tactic(auto)]
+#![tactic(auto, unfolding(rules::specs::Text::is_page, rules::specs::Text::is_single, rules::specs::Text::is_long, rules::specs::Text::is_wide, rules::specs::Text::good_mode, rules::specs::Text::block_size, rules::specs::Tables::ntt, rules::specs::Tables::name_zeros, rules::specs::Tables::name_of, rules::specs::Tables::name_fair, rules::specs::Label::is_name))]
 
-ghost use Rattle.std.specs.Prelude.{◌≡◌, ℕ, ◌+◌, ◌≤◌, ◌<◌};
+ghost use Rattle.std.specs.Prelude.{◌≡◌, ◌≤◌, ◌<◌};
 ghost use Rattle.rules.specs.Bytes.{from};
-ghost use Rattle.rules.specs.Layout.{extent, entry, records};
+ghost use Rattle.rules.specs.Layout.{extent, records};
+ghost use Rattle.rules.specs.Refusals.{by_number};
 ghost use Rattle.rules.specs.Text.{is_page, is_single, block_size, good_mode, good_text};
-ghost use Rattle.rules.specs.Tables.{name_zeros, name_of, name_fair, ntt};
+ghost use Rattle.rules.specs.Tables.{Name, name_zeros, name_of, name_fair, ntt};
 ghost use Rattle.rules.specs.Label as rule;
 ghost use Rattle.rules.specs.declared.Table.TheVariants as table;
 ghost use Rattle.fields.specs.Outline.{header_says, outline_of};
 ghost use Rattle.fields.specs.Place.{Stands};
+ghost use Rattle.rules.proofs.Limits.{ntt_limited};
 
-use fields::{Outline, Outlined, Skip};
-use rules::Language;
+use fields::Outline;
+use fields::records::Records;
+use rules::{Language, Refusal};
 
 // ---- text
 
@@ -21,54 +24,21 @@ use rules::Language;
 fn is_page(mode: u8) -> bool
     ensures { result ≡ is_page mode }
 {
-    if mode <= 0x06 {
-        return true;
-    }
-    if mode < 0x09 {
-        return false;
-    }
-    if mode <= 0x10 {
-        return true;
-    }
-    if mode < 0x20 {
-        return false;
-    }
-    if mode <= 0x27 {
-        return true;
-    }
-    if mode < 0x30 {
-        return false;
-    }
-    mode <= 0x33
+    matches!(mode, 0x00..=0x06 | 0x09..=0x10 | 0x20..=0x27 | 0x30..=0x33)
 }
 
 // A format effector of a single byte.
 fn is_single(mode: u8) -> bool
     ensures { result ≡ is_single mode }
 {
-    if mode < 0x40 {
-        return false;
-    }
-    mode <= 0x9F
+    matches!(mode, 0x40..=0x9F)
 }
 
 // A mode that isn't reserved; characters of 16 bits have an even length.
 fn good_mode(mode: u8, size: u8) -> bool
     ensures { result ≡ good_mode mode size }
 {
-    if is_page(mode) {
-        return true;
-    }
-    if is_single(mode) {
-        return true;
-    }
-    if 0xA0 <= mode {
-        return true;
-    }
-    if mode != 0x3F {
-        return false;
-    }
-    size % 2 == 0
+    is_page(mode) || is_single(mode) || 0xA0 <= mode || mode == 0x3F && size % 2 == 0
 }
 
 // Bytes of the block that begins a text.
@@ -84,11 +54,11 @@ fn block_size(s: &[u8]) -> usize
     2 + size as usize
 }
 
-// Whether these bytes are a text: one or more blocks, which fill them.
+// Whether these bytes are a text: one or more blocks, which fill them. (No `for`: how far it steps is read from the bytes.)
 pub fn good_text(s: &[u8]) -> bool
     ensures { result ≡ good_text s.now }
 {
-    if s.len() == 0 {
+    if s.is_empty() {
         return false;
     }
     let mut at = 0;
@@ -98,11 +68,10 @@ pub fn good_text(s: &[u8]) -> bool
         if rest.len() < size {
             return false;
         }
-        if good_mode(fields::byte(rest, 0), fields::byte(rest, 1)) {
-            at += size;
-        } else {
+        if !good_mode(fields::byte(rest, 0), fields::byte(rest, 1)) {
             return false;
         }
+        at += size;
     }
     true
 }
@@ -142,55 +111,47 @@ fn name_fair(r: &[u8]) -> bool
 pub fn is_name(r: &[u8], application: u8, number: u16) -> bool
     ensures { result ≡ rule.is_name application number (record { index = 0; what = name_of r.now }) }
 {
-    let flag = fields::byte(r, 0) / 128;
-    let own = fields::word(r, 1);
-    if flag != application {
-        return false;
-    }
-    own == number
+    fields::byte(r, 0) / 128 == application && fields::word(r, 1) == number
 }
 
-// The place behind the record at a place and its descriptors; or 8, 9, 10. Whatever the index: a name record takes none.
-fn name_step(b: &[u8], at: usize) -> Skip
-    ensures { (index : ℕ) → Stands b.now result (entry ntt index (from b.now at)) }
-{
-    let size = name_size(b, at);
-    if fields::short(b, at, size) {
-        return Skip::Refused(8);
+// The layout of the table, asked of bytes.
+#[derive(Clone, Copy)]
+pub struct Ntt;
+
+impl Records for Ntt {
+    ghost Row = { Name };
+
+    ghost layout = { λ s. ntt };
+
+    fn size(&self, b: &[u8], at: usize) -> usize {
+        name_size(b, at)
     }
-    let r = &b[at..at + size];
-    if name_zeros(r) {
-        if name_fair(r) {
-            return fields::past_counted(b, at + size, true);
-        }
-        return Skip::Refused(10);
+
+    fn zeros(&self, r: &[u8]) -> bool {
+        name_zeros(r)
     }
-    Skip::Refused(9)
+
+    fn fair(&self, index: u16, r: &[u8]) -> bool {
+        name_fair(r)
+    }
+
+    // a name record carries its number itself
+    fn takes(&self, r: &[u8]) -> u16 {
+        0
+    }
+
+    fn described(&self) -> bool {
+        true
+    }
+
+    ghost limited = { λ s. ntt_limited };
 }
 
-// The place behind the records of an outline; or 8, 9, 10. With no record there is nothing to refuse: the outline's place, or the
-// end where it lies behind it.
-pub fn past_names(b: &[u8], o: Outline) -> Skip
+// The place behind the records of an outline; or 8, 9, 10.
+pub fn past_names(b: &[u8], o: Outline) -> Result<usize, Refusal>
     ensures { Stands b.now result (records ntt o.count o.first (from b.now o.at)) }
 {
-    if o.count == 0 {
-        return fields::past_counted(b, o.at, false);
-    }
-    let mut at = o.at;
-    let mut left = o.count;
-    while 0 < left {
-        let next = name_step(b, at);
-        match next {
-            Skip::At(i) => {
-                at = i;
-                left -= 1;
-            }
-            Skip::Refused(n) => {
-                return Skip::Refused(n);
-            }
-        }
-    }
-    Skip::At(at)
+    fields::records::past_records(&Ntt, b, o)
 }
 
 // ---- a section
@@ -201,14 +162,14 @@ pub const HEADER: usize = 8;
 const HEAD: usize = 1;
 
 // Where the records of a section stand: behind the head; or 8.
-pub fn outline(b: &[u8]) -> Outlined
-    ensures { result ≡ outline_of table.Ntt b.now }
+pub fn outline(b: &[u8]) -> Result<Outline, Refusal>
+    ensures { by_number result ≡ outline_of table.Ntt b.now }
 {
     if fields::short(b, HEADER, HEAD) {
-        return Outlined::Refused(8);
+        return Err(Refusal::CutShort);
     }
     let head = fields::part(b, HEADER, HEAD);
-    Outlined::Records(Outline {
+    Ok(Outline {
         at: HEADER + HEAD,
         map: 0,
         first: 0,

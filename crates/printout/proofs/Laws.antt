@@ -4,14 +4,15 @@ use native.Mathlib.{Nat.add-zero, Nat.zero-add, Nat.suc-mul, Nat.mul-le-mul_righ
 use mathlib.Core.Path.{◌≡◌, refl, sym, ap, ◌∙◌}
 use mathlib.Core.Bool.{Bool, true, false, cond}
 use mathlib.Core.List.{List, [], ◌∷◌, ◌++◌, flatten, append-nil, append_assoc}
-use lib.Dec.{leb, ltb, eqb}
+use lib.Dec.{ltb, eqb}
 use lib.ListN.{length, get_or, replicate, length-append, length-replicate, get_or-replicate, get_or-eq_default}
-use borrow.Author.Tests.{leb-true, leb-false, ltb-true, ltb-false, ne_eqb}
+use borrow.Author.Tests.{ltb-true, ltb-false, ne_eqb}
 use Rattle.rules.specs.{Holding.Box, Tuning.tune, Label.labelled, Label.label_bytes, declared.State.State, declared.Tuned.Tuned}
+use Rattle.rules.specs.Refusals.{OrRefused, wrong, right}
 use Rattle.rules.specs.{Lineup.channel_line, Lineup.channel_lines, LabelLines.label_line, LabelLines.label_line_of}
 use Rattle.search.specs.Listing.{Blank}
-use Rattle.tuner.specs.Checks.{checks}
-use Rattle.tuner.proofs.Laws.{refused-early, refused-high, refused-late}
+use Rattle.tuner.specs.Checks.{checks, checked_as}
+use Rattle.tuner.proofs.Laws.{refused-high, refused-as}
 use Rattle.text.specs.Written.{Wrote, Counts}
 use Rattle.text.proofs.{Written.then, Written.counts, Lines.nothing}
 use Rattle.printout.specs.{declared.Lines.Lines, Lines.box_of, Lines.line_of, Lines.longest, Lines.lines_in, Lines.Adds, Lines.Below}
@@ -58,12 +59,12 @@ module _ {most : ℕ} {line : ℕ → List (List ℕ)} {number : ℕ} {out out' 
 
 -- ---- at most one line for each, of a label too
 
-pub one_line : (number : ℕ) (t : Tuned) → length (channel_line number t) ≤ 1
+pub one_line : (number : ℕ) (t : OrRefused Tuned) → length (channel_line number t) ≤ 1
 unfolding channel_line
-one_line number (Tuned.Refused n) = omega arith
-one_line number (Tuned.Digital hidden path khz program mode) = omega arith
-one_line number (Tuned.Analogue hidden path khz standard scrambled) = omega arith
-one_line number (Tuned.Application hidden path application) = omega arith
+one_line number (wrong n) = omega arith
+one_line number (right (Tuned.Digital hidden path khz program mode)) = omega arith
+one_line number (right (Tuned.Analogue hidden path khz standard scrambled)) = omega arith
+one_line number (right (Tuned.Application hidden path application)) = omega arith
 
 as_many : (n : ℕ) (l : List ℕ) → n ≤ 1 → length (cond (eqb n 0) [] (l ∷ [])) ≡ n
 as_many zero l h = refl
@@ -85,13 +86,13 @@ module _ (b : Box) (number : ℕ) where
   no_line false e = e
 
 -- the line of a channel, written and counted
-pub added : {out : List ℕ} {a : Lines} {out' : List ℕ} {size more : ℕ} {t : Tuned} (labels : Bool) (b : Box) (number : ℕ)
+pub added : {out : List ℕ} {a : Lines} {out' : List ℕ} {size more : ℕ} {t : OrRefused Tuned} (labels : Bool) (b : Box) (number : ℕ)
     → t ≡ tune b.state b.store number → Wrote out a.size (flatten (line_of labels b number)) out' size → size ≤ a.size + longest labels
     → more ≡ length (channel_line number t) → Adds (longest labels) (line_of labels b number) out a out' (record { count = a.count + more; size = size })
 unfolding tuned-line
 added {a = a} {more = more} labels b number is w short e =
     let many = lines-count b number labels in
-    let same : more ≡ length (line_of labels b number) = e ∙ ap (λ (u : Tuned). length (channel_line number u)) is ∙ sym many in
+    let same : more ≡ length (line_of labels b number) = e ∙ ap (λ (u : OrRefused Tuned). length (channel_line number u)) is ∙ sym many in
     record {
       wrote = w;
       count = ap (λ (n : ℕ). a.count + n) same;
@@ -101,10 +102,10 @@ added {a = a} {more = more} labels b number is w short e =
 
 -- ---- the line of a label
 
-module _ (b : Box) (number : ℕ) {t : Tuned} {more : ℕ} (is : t ≡ tune b.state b.store number) (e : more ≡ length (channel_line number t))
+module _ (b : Box) (number : ℕ) {t : OrRefused Tuned} {more : ℕ} (is : t ≡ tune b.state b.store number) (e : more ≡ length (channel_line number t))
   where
     many : more ≡ length (channel_line number (tune b.state b.store number))
-    many = e ∙ ap (λ (u : Tuned). length (channel_line number u)) is
+    many = e ∙ ap (λ (u : OrRefused Tuned). length (channel_line number u)) is
 
     pub no_label : more ≡ 0 → {out : List ℕ} {at : ℕ} → at ≤ length out → Wrote out at (flatten (label_line_of b number)) out at
     unfolding label_line_of flatten
@@ -118,22 +119,22 @@ module _ (b : Box) (number : ℕ) {t : Tuned} {more : ℕ} (is : t ≡ tune b.st
 
 -- ---- the line of either text
 
-module _ {labels : Bool} {out : List ℕ} {at : ℕ} {out' : List ℕ} {r : ℕ} (b : Box) (number : ℕ) where
-  pub of_label : labels ≡ true → (r ≤ at + 546) × Wrote out at (flatten (label_line_of b number)) out' r
-      → (r ≤ at + longest labels) × Wrote out at (flatten (line_of labels b number)) out' r
+module _ {out : List ℕ} {at : ℕ} {out' : List ℕ} {r : ℕ} (b : Box) (number : ℕ) where
+  pub of_label : (r ≤ at + 546) × Wrote out at (flatten (label_line_of b number)) out' r
+      → (r ≤ at + longest true) × Wrote out at (flatten (line_of true b number)) out' r
   unfolding line_of longest
-  of_label e w = rw e w
+  of_label w = w
 
-  pub of-line-up : labels ≡ false → {t : Tuned} → t ≡ tune b.state b.store number
+  pub of-line-up : {t : OrRefused Tuned} → t ≡ tune b.state b.store number
       → (r ≤ at + 289) × Wrote out at (flatten (channel_line number t)) out' r
-      → (r ≤ at + longest labels) × Wrote out at (flatten (line_of labels b number)) out' r
+      → (r ≤ at + longest false) × Wrote out at (flatten (line_of false b number)) out' r
   unfolding line_of longest
-  of-line-up e is w = rw (e, ← is) w
+  of-line-up is w = rw (← is) w
 
 -- ---- where the checks are not passed
 
 -- a channel that is refused has no line
-refused-line : (number : ℕ) (t : Tuned) (n : ℕ) → Tuned.Refused n ≡ t → channel_line number t ≡ []
+refused-line : (number : ℕ) (t : OrRefused Tuned) (n : ℕ) → wrong n ≡ t → channel_line number t ≡ []
 unfolding channel_line
 refused-line number t n e = rw (← e)
 
@@ -142,18 +143,23 @@ unfolding channel_lines
 no_lines line zero from none = refl
 no_lines line (suc n) from none = rw (none from) (no_lines line n (from + 1) none)
 
-module _ (s : State) (store : List ℕ) (n : ℕ) (e : n ≡ checks s store) (ne : n ≡ 0 → ⊥) where
+module _ (s : State) (store : List ℕ) (n : ℕ) (e : wrong n ≡ checked_as (checks s store)) where
   none-tuned : (number : ℕ) → channel_line number (tune s store number) ≡ []
-  none-tuned number = go (leb 14 n) refl (leb number 4095) refl
+  none-tuned number = go (ltb 14 n) refl (ltb 4095 number) refl
     where
-      go : (late : Bool) → leb 14 n ≡ late → (low : Bool) → leb number 4095 ≡ low → channel_line number (tune s store number) ≡ []
-      go false q low p = refused-line number _ n (refused-early s store number n e ne (leb-false 14 n q))
-      go true q true p = refused-line number _ n (refused-late s store number n e ne (leb-true 14 n q) (leb-true number 4095 p))
-      go true q false p = refused-line number _ 14 (refused-high s store number n e (leb-true 14 n q) (leb-false number 4095 p))
+      go : (late : Bool) → ltb 14 n ≡ late → (high : Bool) → ltb 4095 number ≡ high → channel_line number (tune s store number) ≡ []
+      go true q true p = refused-line number _ 14 (refused-high s store number n e (ltb-true 14 n q) (ltb-true 4095 number p))
+      go false q high p = refused-line number _ n (refused-as s store number n e (λ f. ltb-false 14 n q))
+      go true q false p = refused-line number _ n (refused-as s store number n e (λ f. absurd (omega (arith, f, ltb-false 4095 number p))))
 
   pub no-lines-in : (labels : Bool) → lines_in labels (box_of s store) ≡ []
   unfolding lines_in box_of tuned-line
   no-lines-in labels = no_lines (line_of labels (box_of s store)) 4096 0 (λ number. no_line (box_of s store) number labels (none-tuned number))
+
+-- no refusal is the number 0
+pub none-refused : (n : ℕ) {x : Unit} → right x ≡ checked_as n → n ≡ 0
+none-refused zero e = refl
+none-refused (suc n) e = let z : ◌≡◌ {A = ℕ} 0 1 = cc in absurd (omega arith)
 
 -- ---- all of them
 

@@ -2,18 +2,19 @@
 // application, ascending: that of the line-up, or that of its label. The checks of tuning are paid once for all channels.
 #![tactic(auto)]
 
-ghost use Rattle.std.specs.Prelude.{◌≡◌, ◌+◌, ◌*◌, ◌≤◌, length};
+ghost use Rattle.std.specs.Prelude.{◌≡◌, ◌+◌, ◌*◌, ◌≤◌, Bool, true, false, length};
 ghost use mathlib.Core.List.{flatten};
 ghost use Rattle.rules.specs.Tuning.{tune};
 ghost use Rattle.rules.specs.Lineup.{lines_of};
-ghost use Rattle.rules.specs.LabelLines.{label_line_of, label_lines_of};
-ghost use Rattle.tuner.specs.Checks.{checks, AllListed};
+ghost use Rattle.rules.specs.Refusals.{by_number};
+ghost use Rattle.rules.specs.LabelLines.{label_lines_of};
 ghost use Rattle.text.specs.Written.{Wrote, Counts};
 ghost use Rattle.printout.specs.Lines.{box_of, heading_of, label_heading_of, line_of, longest, lines_in, Adds, Below};
 
-use rules::{State, Table, Tuned};
+use rules::{Refusal, State, Table, Tuned};
 use search::listing;
 use stream::Tally;
+use tuner::Lookup;
 
 // Room for 4,096 lines of 289 bytes, the longest if every number had 20 digits.
 pub const LINES: usize = 1183744;
@@ -28,115 +29,101 @@ pub struct Lines {
     pub size: usize,
 }
 
-// How many bytes of each buffer were written.
+// How many bytes of each buffer were written. (Lengths beside lent buffers: there is no heap.)
 #[derive(Clone, Copy)]
 pub struct Printed {
     pub heading: usize,
     pub lines: usize,
 }
 
-// The line of a channel's label, where the line-up has one for what it tunes to. The fallback that is lent is empty.
-fn put_label(
-    state: State,
-    store: &[u8],
-    out: &mut [u8],
-    at: usize,
-    number: u16,
-    tuned: Tuned,
-) -> usize
-    requires at_in_bounds { at + 546 ≤ length out.old }
-    requires tuned_value { tuned ≡ tune state store.now number }
-    ensures { (result ≤ at + 546) × Wrote out.old at (flatten (label_line_of (box_of state store.now) number)) out.new result }
-{
-    if text::lines_of(number, tuned) == 0 {
-        return at;
-    }
-    let label = label::label(state, store, b"", number);
-    text::label_line(out, at, number, label)
+// Which of the two texts is printed: the line-up of the channels, or their labels.
+trait Sheet {
+    ghost labels: { Bool };
+
+    // The line of a channel of a box whose checks have passed, where the line-up has one for what it tunes to.
+    fn put_line(
+        found: &Lookup,
+        out: &mut [u8],
+        at: usize,
+        number: u16,
+        tuned: Result<Tuned, Refusal>,
+    ) -> usize
+        requires labels_in_bounds { at + longest labels ≤ length out.old }
+        requires tuned_value { by_number tuned ≡ tune found.now.state found.now.store.now number }
+        ensures { (result ≤ at + longest labels) × Wrote out.old at (flatten (line_of labels (box_of found.now.state found.now.store.now) number)) out.new result };
 }
 
-// The line of a channel, if it has one: of its label, or of the line-up.
-fn put_line(
-    state: State,
-    store: &[u8],
-    labels: bool,
-    out: &mut [u8],
-    at: usize,
-    number: u16,
-    tuned: Tuned,
-) -> usize
-    requires labels_in_bounds { at + longest labels ≤ length out.old }
-    requires tuned_value { tuned ≡ tune state store.now number }
-    ensures { (result ≤ at + longest labels) × Wrote out.old at (flatten (line_of labels (box_of state store.now) number)) out.new result }
-{
-    if labels {
-        return put_label(state, store, out, at, number, tuned);
+struct LineUp;
+
+impl Sheet for LineUp {
+    ghost labels = { false };
+
+    fn put_line(
+        found: &Lookup,
+        out: &mut [u8],
+        at: usize,
+        number: u16,
+        tuned: Result<Tuned, Refusal>,
+    ) -> usize {
+        text::channel_line(out, at, number, tuned)
     }
-    text::channel_line(out, at, number, tuned)
+}
+
+struct Labels;
+
+impl Sheet for Labels {
+    ghost labels = { true };
+
+    // The fallback that is lent is empty.
+    fn put_line(
+        found: &Lookup,
+        out: &mut [u8],
+        at: usize,
+        number: u16,
+        tuned: Result<Tuned, Refusal>,
+    ) -> usize {
+        if text::lines_of(number, tuned) == 0 {
+            return at;
+        }
+        let label = label::label(found.state, found.store, b"", number);
+        text::label_line(out, at, number, label)
+    }
 }
 
 // The line of one channel, if it has one, behind the lines so far.
-fn add_line(
-    state: State,
-    store: &[u8],
-    ranges: &[u64],
-    channels: &[u64],
-    carriers: &[u64],
-    modes: &[u64],
-    labels: bool,
-    out: &mut [u8],
-    number: u16,
-    lines: Lines,
-) -> Lines
-    requires store_value { checks state store.now ≡ 0 }
-    requires all_listed { AllListed state store.now ranges.now channels.now carriers.now modes.now }
-    requires labels_in_bounds { (lines.size + longest labels ≤ length out.old) × (lines.count ≤ number) }
-    ensures { Adds (longest labels) (line_of labels (box_of state store.now) number) out.old lines out.new result }
+fn add_line<S: Sheet>(found: &Lookup, out: &mut [u8], number: u16, lines: Lines) -> Lines
+    requires { (lines.size + longest S.labels ≤ length out.old) × (lines.count ≤ number) }
+    ensures { Adds (longest S.labels) (line_of S.labels (box_of found.now.state found.now.store.now) number) out.old lines out.new result }
 {
-    let tuned = tuner::look_up(state, store, ranges, channels, carriers, modes, number);
+    let tuned = found.look_up(number);
     let more = text::lines_of(number, tuned);
-    let size = put_line(state, store, labels, out, lines.size, number, tuned);
+    let size = S::put_line(found, out, lines.size, number, tuned);
     Lines {
         count: lines.count + more,
         size,
     }
 }
 
-// The lines of all channels, by listings of the four tables, where the checks have passed.
-fn listed_lines(
-    state: State,
-    store: &[u8],
-    ranges: &[u64],
-    channels: &[u64],
-    carriers: &[u64],
-    modes: &[u64],
-    labels: bool,
-    out: &mut [u8],
-) -> Lines
-    requires store_value { checks state store.now ≡ 0 }
-    requires all_listed { AllListed state store.now ranges.now channels.now carriers.now modes.now }
-    requires out_len { length out.old ≡ 4096 * longest labels }
-    ensures { Below (longest labels) (line_of labels (box_of state store.now)) 4096 out.old out.new result }
+// The lines of all channels of a box whose checks have passed.
+fn listed_lines<S: Sheet>(found: &Lookup, out: &mut [u8]) -> Lines
+    requires { length out.old ≡ 4096 * longest S.labels }
+    ensures { Below (longest S.labels) (line_of S.labels (box_of found.now.state found.now.store.now)) 4096 out.old out.new result }
 {
     let mut lines = Lines { count: 0, size: 0 };
-    let mut number = 0;
-    while number < 4096 {
-        lines = add_line(
-            state, store, ranges, channels, carriers, modes, labels, out, number, lines,
-        );
-        number += 1;
+    for number in 0..4096 {
+        lines = add_line::<S>(found, out, number, lines);
     }
     lines
 }
 
-// The lines of all channels, of the line-up or of their labels.
-fn channel_lines(state: State, store: &[u8], labels: bool, out: &mut [u8]) -> Lines
-    requires { length out.old ≡ 4096 * longest labels }
-    ensures wrote { Wrote out.old 0 (flatten (lines_in labels (box_of state store.now))) out.new result.size }
-    ensures count_value { result.count ≡ length (lines_in labels (box_of state store.now)) }
+// The lines of all channels of any box, by listings of the four tables.
+fn channel_lines<S: Sheet>(state: State, store: &[u8], out: &mut [u8]) -> Lines
+    requires { length out.old ≡ 4096 * longest S.labels }
+    ensures wrote { Wrote out.old 0 (flatten (lines_in S.labels (box_of state store.now))) out.new result.size }
+    ensures count_value { result.count ≡ length (lines_in S.labels (box_of state store.now)) }
     ensures counts { Counts result.size out.new }
 {
-    if tuner::check(state, store) != 0 {
+    if let Err(_) = tuner::check(state, store) {
         return Lines { count: 0, size: 0 };
     }
     let mut ranges = [0u64; 4096];
@@ -147,9 +134,15 @@ fn channel_lines(state: State, store: &[u8], labels: bool, out: &mut [u8]) -> Li
     listing::list_records(state, store, Table::Vcm, &mut channels);
     listing::list_records(state, store, Table::Cds, &mut carriers);
     listing::list_records(state, store, Table::Mms, &mut modes);
-    listed_lines(
-        state, store, &ranges, &channels, &carriers, &modes, labels, out,
-    )
+    let found = Lookup {
+        state,
+        store,
+        ranges: &ranges,
+        channels: &channels,
+        carriers: &carriers,
+        modes: &modes,
+    };
+    listed_lines::<S>(&found, out)
 }
 
 // The whole line-up of a tally: the first bytes of the one buffer, and behind them the first bytes of the other.
@@ -160,7 +153,7 @@ pub fn print(t: Tally, store: &[u8], heading: &mut [u8; 256], lines: &mut [u8; 1
     ensures counts_2 { Counts result.lines lines.new }
 {
     let state = t.state;
-    let written = channel_lines(state, store, false, lines);
+    let written = channel_lines::<LineUp>(state, store, lines);
     let size = text::heading(heading, state, t.sections, t.refused, written.count);
     Printed {
         heading: size,
@@ -168,7 +161,8 @@ pub fn print(t: Tally, store: &[u8], heading: &mut [u8; 256], lines: &mut [u8; 1
     }
 }
 
-// The labels of a tally, in the same way.
+// The labels of a tally, in the same way. (No one function of both: heading, length of the lines and rule are each one's own, and what is left are
+// two calls.)
 pub fn print_labels(
     t: Tally,
     store: &[u8],
@@ -181,7 +175,7 @@ pub fn print_labels(
     ensures counts_2 { Counts result.lines lines.new }
 {
     let state = t.state;
-    let written = channel_lines(state, store, true, lines);
+    let written = channel_lines::<Labels>(state, store, lines);
     let size = text::label_heading(heading, state, written.count);
     Printed {
         heading: size,

@@ -3,12 +3,13 @@
 #![tactic(auto)]
 
 ghost use Rattle.std.specs.Prelude.{◌≡◌};
-ghost use Rattle.rules.specs.Holding.{fresh, takes_in, offered, store_after};
+ghost use Rattle.rules.specs.Holding.{fresh, takes_in, offered, outcome, store_after};
+ghost use Rattle.rules.specs.Refusals.{right};
 ghost use Rattle.rules.specs.Said.{answer_said, offer_said};
-ghost use Rattle.receiver.specs.Taking.{answered, Admitted};
+ghost use Rattle.receiver.specs.Taking.{answered, stored, Room};
 
 use rules::{
-    Answer, GatheredVersion, Holding, LiveVersion, Offered, Read, SectionHead, Settings, State,
+    Answer, GatheredVersion, Holding, LiveVersion, Offered, Refusal, SectionHead, Settings, State,
     Tables,
 };
 
@@ -19,21 +20,13 @@ use rules::{
 pub const STORE: usize = 40960;
 
 // A box for a map and a language: nothing live, nothing gathered, and the half set to 1, so that gathering uses half 0.
+#[tactic(auto, using(crate::proofs::Laws::held_fresh), unfolding(rules::specs::Holding::fresh))]
 pub fn start(map: u16, language: [u8; 3]) -> State
     ensures { result ≡ fresh map language }
 {
     let none = Holding {
-        live: LiveVersion {
-            present: 0,
-            version: 0,
-            last: 0,
-        },
-        gathered: GatheredVersion {
-            present: 0,
-            version: 0,
-            last: 0,
-            held: 0,
-        },
+        live: LiveVersion::default(),
+        gathered: GatheredVersion::default(),
         half: 1,
     };
     State {
@@ -52,81 +45,64 @@ pub fn start(map: u16, language: [u8; 3]) -> State
 
 // The answers of steps 5 and 6.
 fn takes_in(a: Answer) -> bool
-    ensures { result ≡ takes_in a }
+    ensures { result ≡ takes_in (right a) }
 {
-    match a {
-        Answer::Refused(_) => false,
-        Answer::OtherMap => false,
-        Answer::Repeat => false,
-        Answer::Stored(_) => true,
-        Answer::Live(_) => true,
-    }
+    matches!(a, Answer::Stored(_) | Answer::Live(_))
 }
 
-// The answer to a section that reads right, and the state after it.
-fn answer_to(s: State, head: SectionHead) -> Offered
-    ensures { result ≡ answered s head }
+// The answer to a section that reads right, and the state after it; or 11, 12, 13.
+#[tactic(auto, using(rules::proofs::States::with_own), unfolding(crate::specs::Taking::answered, rules::specs::Gathering::stepped))]
+fn answer_to(s: State, head: SectionHead) -> Result<Offered, Refusal>
+    ensures { outcome s result ≡ answered s head }
 {
-    let t = head.table;
     // step 1
-    let language = head.language;
-    if state::is_for_other(s, t, head.map, language) {
-        return Offered {
+    if state::is_for_other(s, head.table, head.map, head.language) {
+        return Ok(Offered {
             answer: Answer::OtherMap,
             state: s,
-        };
+        });
     }
-    let h = state::holding_of(s, t);
-    let r = head.revision;
-    let stepped = holding::step(state::limit_of(s), h, r);
-    let answer = stepped.answer;
-    let holding = stepped.holding;
-    let state = state::with_holding(s, t, holding);
-    Offered { answer, state }
+    let h = state::holding_of(s, head.table);
+    let stepped = holding::step(state::limit_of(s), h, head.revision)?;
+    Ok(Offered {
+        answer: stepped.answer,
+        state: state::with_holding(s, head.table, stepped.holding),
+    })
 }
 
-// A section that reads right, offered to a state and a store that pass checks 1 and 2.
-fn hold(state: State, store: &mut [u8], section: &[u8], head: SectionHead) -> Offered
-    requires { Admitted state store.old section.now head }
-    ensures value { result ≡ offered state store.old section.now }
-    ensures store_after { store.new ≡ store_after state store.old section.now }
+// The same, with the section put into the store where steps 5 and 6 say so.
+fn hold(
+    state: State,
+    store: &mut [u8],
+    section: &[u8],
+    head: SectionHead,
+) -> Result<Offered, Refusal>
+    requires { Room state store.old section.now head }
+    ensures value { outcome state result ≡ answered state head }
+    ensures store_after { store.new ≡ stored state store.old section.now head }
 {
-    let offered = answer_to(state, head);
-    let answer = offered.answer;
-    if takes_in(answer) {
-        let t = head.table;
-        let at = state::gathered_at(state, t, head.revision.number);
+    let offered = answer_to(state, head)?;
+    if takes_in(offered.answer) {
+        let at = state::gathered_at(state, head.table, head.revision.number);
         fields::put(store, at, section);
-        return offered;
     }
-    offered
+    Ok(offered)
 }
 
 // What the box answers to a section, and its state then. Steps 5 and 6 put the section's bytes at the front of its place; in
-// every other case the store is as it was.
-pub fn offer(state: State, store: &mut [u8], section: &[u8]) -> Offered
-    ensures value { result ≡ offered state store.old section.now }
+// every other case the store is as it was, and where it refuses the state is the one that was given.
+#[tactic(auto, using(crate::proofs::Laws::offers), unfolding(rules::specs::Gathering::store_after, rules::specs::Said::offer_said))]
+pub fn offer(state: State, store: &mut [u8], section: &[u8]) -> Result<Offered, Refusal>
+    ensures value { outcome state result ≡ offered state store.old section.now }
     ensures store_after { store.new ≡ store_after state store.old section.now }
-    ensures answer_value { answer_said result.answer ≡ offer_said state store.old section.now }
+    ensures answer_value { answer_said (outcome state result).answer ≡ offer_said state store.old section.now }
 {
     if store.len() < state::store_size(state) {
-        return Offered {
-            answer: Answer::Refused(1),
-            state,
-        };
+        return Err(Refusal::ShortStore);
     }
     if !state::well_formed(state) {
-        return Offered {
-            answer: Answer::Refused(2),
-            state,
-        };
+        return Err(Refusal::BadState);
     }
-    let read = section::read_section(section);
-    match read {
-        Read::Refused(n) => Offered {
-            answer: Answer::Refused(n),
-            state,
-        },
-        Read::Right(head) => hold(state, store, section, head),
-    }
+    let head = section::read_section(section)?;
+    hold(state, store, section, head)
 }

@@ -7,7 +7,7 @@ use mathlib.Core.Bool.{Bool, true, false, cond, ◌&&◌}
 use mathlib.Core.{Logic.◌⊎◌, Logic.inl, Logic.inr, List.List, List.[], List.◌∷◌}
 use lib.{ListN.length, Dec.eqb}
 use borrow.Author.Tests.{eqb-true, eqb-false, eq-eqb}
-use Rattle.rules.specs.{Section.ReadingOf, Section.wrong, Section.right, Offering.Taking, Offering.TakenIn, declared.Holding.Holding}
+use Rattle.rules.specs.{Section.wrong, Section.right, Offering.Taking, Offering.TakenIn, declared.Holding.Holding}
 use Rattle.rules.specs.declared.Revision.{Revision}
 use Rattle.rules.specs.Steps.{none_live, none_gathered, fresh_holding, holds, all_of, holding_formed, held_with, gone_live, gathering, step_of, takes_in}
 use Rattle.rules.specs.Gathering.{Collector, BoxOf, Outcome, place_of, section_at, offered_as, offered, answer_to, box_after, run, answers}
@@ -15,10 +15,11 @@ use Rattle.rules.proofs.{Right.one_right, Right.not_right, Taken.differ, Held.ho
 use Rattle.rules.proofs.{Steps.gathered-says, Steps.held-before, Steps.taken-cases, Lawful.Lawful, Lawful.same-table, Kept.length-kept}
 use Rattle.rules.proofs.{Formed.live-low, Faithful.gathered-low, Placed.is_place, Placed.place_after, Truths.by-test}
 use Rattle.rules.proofs.Offers.{not-of, taken_in, untouched, reads_kept, limit-kept, formed-kept, others-kept, step-holds}
+use Rattle.rules.specs.Refusals.{OrRefused}
 
 -- ---- what a reading means, of which gathering looks at no more
 
-unfoldable pub meaning : {C M : Type 0} → (C → M) → ReadingOf C → ReadingOf M
+unfoldable pub meaning : {C M : Type 0} → (C → M) → OrRefused C → OrRefused M
 meaning means (wrong n) = wrong n
 meaning means (right c) = right (means c)
 
@@ -30,7 +31,7 @@ pub record Enough {T S C M : Type 0} (co : Collector T S C) (means : C → M) : 
   pub word : (s : S) (c d : C) → means c ≡ means d → co.word s c ≡ co.word s d
 
 -- whatever looks at no more comes to the same
-by-meaning : {C M X : Type 0} (means : C → M) (f : ReadingOf C → X) → ((c d : C) → means c ≡ means d → f (right c) ≡ f (right d)) → (q r : ReadingOf C)
+by-meaning : {C M X : Type 0} (means : C → M) (f : OrRefused C → X) → ((c d : C) → means c ≡ means d → f (right c) ≡ f (right d)) → (q r : OrRefused C)
     → meaning means q ≡ meaning means r → f q ≡ f r
 unfolding meaning
 by-meaning means f same (wrong m) (wrong n) e = let k : m ≡ n = cc in ap (λ (x : ℕ). f (wrong x)) k
@@ -93,7 +94,7 @@ module _ {T S C M : Type 0} (co : Collector T S C) (means : C → M) where
   says_on : {s u : S} → ((z : List ℕ) → read_for u z ≡ read_for s z) → {x y : List ℕ} → SaySame s x y → SaySame u x y
   says_on same {x} {y} w = record { same = ap (meaning means) (same y) ∙ w.same ∙ sym (ap (meaning means) (same x)) }
 
-  pub by-same : {X : Type 0} (f : ReadingOf C → X) → ((c d : C) → means c ≡ means d → f (right c) ≡ f (right d)) → {s : S} {x y : List ℕ} → SaySame s x y
+  pub by-same : {X : Type 0} (f : OrRefused C → X) → ((c d : C) → means c ≡ means d → f (right c) ≡ f (right d)) → {s : S} {x y : List ℕ} → SaySame s x y
       → f (read_for s y) ≡ f (read_for s x)
   by-same f same {s} {x} {y} w = by-meaning means f same (read_for s y) (read_for s x) w.same
 

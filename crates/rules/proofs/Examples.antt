@@ -20,10 +20,11 @@ use Rattle.rules.specs.declared.Channel.{Channel}
 use Rattle.rules.specs.declared.Signal.TheVariants.{Digital, Analogue}
 use Rattle.rules.specs.declared.Range.{Range}
 use Rattle.rules.specs.declared.Revision.{Revision}
-use Rattle.rules.specs.declared.Answer.TheVariants.{Refused, Repeat, Stored, Live}
+use Rattle.rules.specs.declared.Answer.TheVariants.{Repeat, Stored, Live}
 use Rattle.rules.specs.declared.Tuned.{Tuned}
 use Rattle.rules.proofs.Hex.{hex}
 use Rattle.rules.proofs.Computed.{computed}
+use Rattle.rules.specs.Refusals.{wrong}
 
 -- what a section of each table says, field by field: in front of the records, and these
 
@@ -118,18 +119,18 @@ pub record Examples : Type 0 where
   -- C2 `01 00 00 15 18`: 54,000
   pub c2 :
       (carrier_khz (carriers_of (hex "01 00 00 15 18")) 0 ≡ 54000)
-      × (look_up borders 2 ≡ Tuned.Digital 0 0 54000 3 c12_mode)
+      × (look_up borders 2 ≡ right (Tuned.Digital 0 0 54000 3 c12_mode))
   -- C3 `01 00 00 15 17`: 53,990, reads, tuning gives 20
   pub c3 :
       (carrier_khz (carriers_of (hex "01 00 00 15 17")) 0 ≡ 53990)
       × (check borders_cds ≡ 0)
-      × (look_up borders 3 ≡ Tuned.Refused 20)
+      × (look_up borders 3 ≡ wrong 20)
   -- C4 `01 00 00 9F 50`: 1,002,000; `..51` in the last byte: 1,002,125, gives 20
   pub c4 :
       (carrier_khz (carriers_of (hex "01 00 00 9F 50")) 0 ≡ 1002000)
-      × (look_up borders 4 ≡ Tuned.Digital 0 0 1002000 3 c12_mode)
+      × (look_up borders 4 ≡ right (Tuned.Digital 0 0 1002000 3 c12_mode))
       × (carrier_khz (carriers_of (hex "01 00 00 9F 51")) 0 ≡ 1002125)
-      × (look_up borders 5 ≡ Tuned.Refused 20)
+      × (look_up borders 5 ≡ wrong 20)
   -- C5 `00 80 30 81 C8`: 10; `02 C0 30 81 C8`: 9
   pub c5 :
       (check (hex "C2 30 13 00 01 01 01 00 80 30 81 C8 00 93 03 E5 00 00 83 06 E9 89") ≡ 10)
@@ -207,7 +208,7 @@ pub record Examples : Type 0 where
       ∷ hex "C2 30 13 00 01 01 01 02 80 30 81 C8 00 93 03 E5 00 00 74 9E FB E2"
       ∷ hex "C2 30 13 00 01 01 01 02 80 30 81 C8 00 93 03 E7 00 04 64 2B D4 30"
       ∷ [])
-      ≡ Stored 1 ∷ Repeat ∷ Live 6 ∷ Stored 1 ∷ Repeat ∷ Live 5 ∷ Refused 13 ∷ Refused 12 ∷ []
+      ≡ right (Stored 1) ∷ right Repeat ∷ right (Live 6) ∷ right (Stored 1) ∷ right Repeat ∷ right (Live 5) ∷ wrong 13 ∷ wrong 12 ∷ []
 
 pub examples : Examples
 unfolding computed

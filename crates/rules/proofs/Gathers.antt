@@ -12,6 +12,7 @@ use Rattle.rules.proofs.Offers.{taken_in, untouched, went-live, live-kept, live-
 use Rattle.rules.proofs.Offering.{offering, offering-only, complete_lives}
 use Rattle.rules.proofs.Faithful.{FaithfulBox, section-placed, faithful-run, faithful-fresh}
 use Rattle.rules.proofs.Alike.{Enough, Paired, itself, each-itself, alike-itself, fresh-alike, run-alike}
+use Rattle.rules.specs.Refusals.{OrRefused}
 
 module _ {T S C : Type 0} (co : Collector T S C) where
   open co use {holding as holding_of, limit as limit_of, read as read_for, table as table_of, revision as revision_of, aside as sets_aside}
@@ -20,15 +21,15 @@ module _ {T S C : Type 0} (co : Collector T S C) where
     -- condition 1: the answer is the one that the checks in their order allow, and no other; what is taken in has passed them all, and every
     -- other answer changes neither state nor store
     pub offer_checked : (b : BoxOf S) (section : List ℕ) → Offering co b section (answer_to co b section)
-    pub offer_only : (b : BoxOf S) (section : List ℕ) (a : Answer) → Offering co b section a → a ≡ answer_to co b section
+    pub offer_only : (b : BoxOf S) (section : List ℕ) (a : OrRefused Answer) → Offering co b section a → a ≡ answer_to co b section
     pub taken_checked : (b : BoxOf S) (section : List ℕ) → takes_in (answer_to co b section) ≡ true → (c : C) × TakenIn co b section c
     pub others_leave : (b : BoxOf S) (section : List ℕ) → takes_in (answer_to co b section) ≡ false → box_after co b section ≡ b
     -- condition 2: "A version of a table goes live at the section that completes it"
-    pub live_completes : (b : BoxOf S) (section : List ℕ) (v : ℕ) → answer_to co b section ≡ Live v → NowLive co b section v
+    pub live_completes : (b : BoxOf S) (section : List ℕ) (v : ℕ) → answer_to co b section ≡ right (Live v) → NowLive co b section v
     pub complete_lives : (b : BoxOf S) (section : List ℕ) (c : C) → New co b section c
         → ((k : ℕ) → k ≤ (revision_of c).last → NowHas (holding_of b.state (table_of c)) (revision_of c) k) → answer_to co b section
-        ≡ Live (revision_of c).version
-    pub live_is_offered : (b : BoxOf S) (section : List ℕ) (v : ℕ) → answer_to co b section ≡ Live v → (c : C) → read_for b.state section ≡ right c
+        ≡ right (Live (revision_of c).version)
+    pub live_is_offered : (b : BoxOf S) (section : List ℕ) (v : ℕ) → answer_to co b section ≡ right (Live v) → (c : C) → read_for b.state section ≡ right c
         → (n : ℕ) → n ≤ (revision_of c).last
         → section_at co (box_after co b section).store (live_at co (box_after co b section).state (table_of c) n)
         ≡ cond (eqb (revision_of c).number n) section (section_at co b.store (gathered_at co b.state (table_of c) n))
@@ -40,9 +41,9 @@ module _ {T S C : Type 0} (co : Collector T S C) where
     -- "and at no other moment"
     pub no_other_moment : (b : BoxOf S) (section : List ℕ) → is_going_live (answer_to co b section) ≡ false → (t : T)
         → SameLive (holding_of (box_after co b section).state t) (holding_of b.state t)
-    pub that_moment : (b : BoxOf S) (section : List ℕ) (v : ℕ) → answer_to co b section ≡ Live v
+    pub that_moment : (b : BoxOf S) (section : List ℕ) (v : ℕ) → answer_to co b section ≡ right (Live v)
         → (t : T) × ((holding_of (box_after co b section).state t).live ≡ (holding_of b.state t).live → ⊥)
-    pub missing : (b : BoxOf S) (section : List ℕ) (n : ℕ) → answer_to co b section ≡ Stored n → NowHeld co b section n
+    pub missing : (b : BoxOf S) (section : List ℕ) (n : ℕ) → answer_to co b section ≡ right (Stored n) → NowHeld co b section n
     -- "in any order"
     pub in_any_order : (b : BoxOf S) (t : T) (v last n : ℕ) (x : List ℕ) (xs : List (List ℕ)) → Promised co b t v last (x ∷ xs)
         → Wanted co b.state t v last n x

@@ -24,6 +24,7 @@ use Rattle.rules.proofs.Tunes.{Decides, Searched, hit, missed, searched, misses,
 use Rattle.rules.proofs.{States.formed_says, States.formed_so}
 use Rattle.rules.proofs.LivePlaces.{place-so, every-so, live-so, live-says, reads_so, reads-says, table-says}
 use Rattle.rules.proofs.Standing.{StandsAt, FirstOf, nowhere, there, first_of, names_stand, name-there, name-fits}
+use Rattle.rules.specs.Refusals.{OrRefused, wrong, right}
 
 -- ---- the words are the rule's tests
 
@@ -69,17 +70,17 @@ module _ (s : State) (store : List ℕ) (number : ℕ) where
 
   -- the name of a channel record, or the fallback
   name-told : (c : Channel) → Recorded s store number c
-      → Labelling s store number (label_of (first (λ x. is_name c.application c.source x.row) (live_names s store)))
+      → Labelling s store number (right (label_of (first (λ x. is_name c.application c.source x.row) (live_names s store))))
   unfolding live_names label_of table_live first ntt
   name-told c r = go (table_live s Ntt) refl
     where
       found : NamesLive s → (o : Option (Standing Name)) → Searched (λ y. NameIs c.application c.source y.row) (live_standing s store Ntt) o
-          → Labelling s store number (label_of o)
+          → Labelling s store number (right (label_of o))
       found on none (missed w) = fallback r (λ _. w)
       found on (some x) (hit f) = named r on f
 
       go : (b : Bool) → table_live s Ntt ≡ b
-          → Labelling s store number (label_of (first (λ x. is_name c.application c.source x.row) (cond b (live_standing s store Ntt) [])))
+          → Labelling s store number (right (label_of (first (λ x. is_name c.application c.source x.row) (cond b (live_standing s store Ntt) []))))
       go true e =
           found (eqb-true (holding_of s Ntt).live.present 1 e) _ (searched (name-test (λ (y : Standing Name). y.row) c.application c.source) _)
       go false e = fallback r (λ on. absurd (eqb-false (holding_of s Ntt).live.present 1 e on))
@@ -103,7 +104,7 @@ module _ (s : State) (store : List ℕ) (number : ℕ) where
           channel (record { range = r; first = f; is = eqb-true r.what.defined 1 e }) _ (searched (channel-test number) p.channels)
       go (some r) (hit f) false e = not_defined l (inr (r, f, eqb-false r.what.defined 1 e))
 
-  abbrev behind : Labelled
+  abbrev behind : OrRefused Labelled
   behind = wants (defined p.ranges number) 17 (channel_label s store (first (is_channel number) p.channels))
 
   checked : Askable s store number → (d : Bool) → all_live s ≡ d → (e : Bool) → all_read s store ≡ e → (f : Bool) → names_read s store ≡ f
@@ -119,7 +120,7 @@ module _ (s : State) (store : List ℕ) (number : ℕ) where
   unfolding labelled wants
   labelling = go (leb (store_size (limit_of s)) (length store)) refl (well_formed s) refl (leb number 4095) refl
     where
-      rest : Labelled
+      rest : OrRefused Labelled
       rest = wants (all_live s) 15 (wants (all_read s store && names_read s store) 16 behind)
 
       go : (a : Bool) → leb (store_size (limit_of s)) (length store) ≡ a → (b : Bool) → well_formed s ≡ b → (c : Bool) → leb number 4095 ≡ c
@@ -147,7 +148,7 @@ module _ (s : State) (store : List ℕ) (number : ℕ) where
       ) refl
 
   asked-name : (c : Channel) → Recorded s store number c
-      → labelled s store number ≡ label_of (first (λ x. is_name c.application c.source x.row) (live_names s store))
+      → labelled s store number ≡ right (label_of (first (λ x. is_name c.application c.source x.row) (live_names s store)))
   unfolding wants defined defined_by channel_label
   asked-name c r =
       let d = r.defined in
@@ -169,7 +170,7 @@ module _ (s : State) (store : List ℕ) (number : ℕ) where
   a-name c x on f =
       rw (eq-eqb (holding_of s Ntt).live.present 1 on) (hits (name-test (λ (y : Standing Name). y.row) c.application c.source) f)
 
-  pub labelling-only : (l : Labelled) → Labelling s store number l → l ≡ labelled s store number
+  pub labelling-only : (l : OrRefused Labelled) → Labelling s store number l → l ≡ labelled s store number
   unfolding labelled wants label_of ntt defined defined_by channel_label
   labelling-only l (short h) = rw (lt-leb (store_size (limit_of s)) (length store) h) refl
   labelling-only l (unformed roomy out) =
@@ -233,10 +234,10 @@ module _ (s : State) (store : List ℕ) (number : ℕ) where
           let is : y ≡ x = cc in
           made (subst (λ (z : Standing Name). StandsAt ntt.block store z) is a) (q ∙ ap (λ (z : Standing Name). some z.row) is)
 
-  pub named-is : (start size : ℕ) → labelled s store number ≡ Labelled.Named start size → NamedBy s store number start size
+  pub named-is : (start size : ℕ) → labelled s store number ≡ right (Labelled.Named start size) → NamedBy s store number start size
   named-is start size e = go (labelled s store number) (labelling s store number) e
     where
-      go : (l : Labelled) → Labelling s store number l → l ≡ Labelled.Named start size → NamedBy s store number start size
+      go : (l : OrRefused Labelled) → Labelling s store number l → l ≡ right (Labelled.Named start size) → NamedBy s store number start size
       go l (short h) q = let z : ◌≡◌ {A = ℕ} 0 1 = cc in absurd (omega arith)
       go l (unformed a b) q = let z : ◌≡◌ {A = ℕ} 0 1 = cc in absurd (omega arith)
       go l (high a b h) q = let z : ◌≡◌ {A = ℕ} 0 1 = cc in absurd (omega arith)
@@ -267,7 +268,7 @@ abbrev pub channel_told : List (Numbered Name) → Option (Numbered Channel) →
 channel_told names none = refused 18
 channel_told names (some c) = name_told (first (is_name c.what.application c.what.source) names)
 
-told-wants : (store : List ℕ) (b : Bool) (n : ℕ) (l : Labelled) → told_label store (wants b n l) ≡ told_wants b n (told_label store l)
+told-wants : (store : List ℕ) (b : Bool) (n : ℕ) (l : OrRefused Labelled) → told_label store (wants b n l) ≡ told_wants b n (told_label store l)
 unfolding told_label wants
 told-wants store true n l = refl
 told-wants store false n l = refl
@@ -275,23 +276,23 @@ told-wants store false n l = refl
 -- the name that stands at a place is told as it is
 module _ (s : State) (store : List ℕ) where
   told-standing : table_reads s store Ntt ≡ true → (test : Numbered Name → Bool)
-      → told_label store (label_of (first (λ x. test x.row) (live_standing s store Ntt))) ≡ name_told (first test (live_records names_in s store Ntt))
+      → told_label store (right (label_of (first (λ x. test x.row) (live_standing s store Ntt)))) ≡ name_told (first test (live_records names_in s store Ntt))
   unfolding told_label label_of ntt
   told-standing reads test = go (first_of ntt.block store test _ _ (names_stand s store reads))
     where
       go : FirstOf ntt.block store test (live_standing s store Ntt) (live_records names_in s store Ntt)
-          → told_label store (label_of (first (λ x. test x.row) (live_standing s store Ntt))) ≡ name_told (first test (live_records names_in s store Ntt))
+          → told_label store (right (label_of (first (λ x. test x.row) (live_standing s store Ntt)))) ≡ name_told (first test (live_records names_in s store Ntt))
       go (nowhere p q) = rw (p, q) refl
       go (there y p q a) = rw (p, q) (ap name (name-there store y a))
 
   told-name : names_read s store ≡ true → (application number : ℕ)
-      → told_label store (label_of (first (λ x. is_name application number x.row) (live_names s store)))
+      → told_label store (right (label_of (first (λ x. is_name application number x.row) (live_names s store))))
       ≡ name_told (first (is_name application number) (names_of s store))
   unfolding told_label label_of live_names names_read first
   told-name e application number = go (table_live s Ntt) e
     where
       go : (b : Bool) → cond b (table_reads s store Ntt) true ≡ true
-          → told_label store (label_of (first (λ x. is_name application number x.row) (cond b (live_standing s store Ntt) [])))
+          → told_label store (right (label_of (first (λ x. is_name application number x.row) (cond b (live_standing s store Ntt) []))))
           ≡ name_told (first (is_name application number) (cond b (live_records names_in s store Ntt) []))
       go true q = told-standing q (is_name application number)
       go false q = refl
@@ -329,16 +330,16 @@ module _ (s : State) (store : List ℕ) where
 -- ---- the numbers of refusal
 
 module _ (s : State) (store : List ℕ) (number : ℕ) where
-  pub label-number : (n : ℕ) → labelled s store number ≡ Labelled.Refused n → OfLabel n
+  pub label-number : (n : ℕ) → labelled s store number ≡ wrong n → OfLabel n
   label-number n e = go (labelled s store number) (labelling s store number) e
     where
-      low : {m : ℕ} → 1 ≤ m → m ≤ 2 → Labelled.Refused m ≡ Labelled.Refused n → OfLabel n
+      low : {m : ℕ} → 1 ≤ m → m ≤ 2 → ◌≡◌ {A = OrRefused Labelled} (wrong m) (wrong n) → OfLabel n
       low {m} a b q = let is : m ≡ n = cc in inl (omega arith, omega arith)
 
-      above : {m : ℕ} → 14 ≤ m → m ≤ 18 → Labelled.Refused m ≡ Labelled.Refused n → OfLabel n
+      above : {m : ℕ} → 14 ≤ m → m ≤ 18 → ◌≡◌ {A = OrRefused Labelled} (wrong m) (wrong n) → OfLabel n
       above {m} a b q = let is : m ≡ n = cc in inr (omega arith, omega arith)
 
-      go : (l : Labelled) → Labelling s store number l → l ≡ Labelled.Refused n → OfLabel n
+      go : (l : OrRefused Labelled) → Labelling s store number l → l ≡ wrong n → OfLabel n
       go l (short h) q = low (omega arith) (omega arith) q
       go l (unformed a b) q = low (omega arith) (omega arith) q
       go l (high a b h) q = above (omega arith) (omega arith) q

@@ -1,3 +1,5 @@
+pub mod Refusals
+pub mod Limits
 -- The theorems about the rules. To read: the three conditions. What their statements say in words stands in specs/: InParts, Formed, Offering, Answered,
 -- Runs, Sent, Growth, Meaning; the paper's examples below. Then the laws.
 

@@ -1,7 +1,7 @@
 -- Condition 1: "answers or refuses by a number from document 01": which numbers each question can give.
 use Prim.Native.Nat.{ℕ, zero, suc, ◌+◌, ◌-◌, ◌≤◌}
 use native.Mathlib.Omega.{arith}
-use mathlib.Core.Path.{◌≡◌, refl, ap, subst, ◌∙◌}
+use mathlib.Core.Path.{◌≡◌, refl, sym, ap, subst, ◌∙◌}
 use mathlib.Core.{Logic.◌⊎◌, Logic.inl, Logic.inr, List.List, List.[], List.◌∷◌, Option.Option, Option.none, Option.some}
 use mathlib.Core.Bool.{Bool, true, false, cond, not}
 use lib.{ListN.length, Count.ones, Dec.leb, Dec.ltb, Dec.eqb}
@@ -10,15 +10,16 @@ use Rattle.rules.specs.Descriptors.{Descriptor, descriptor, passed, counted, fil
 use Rattle.rules.specs.Layout.{Block, taken, Layout, entry, after, records}
 use Rattle.rules.specs.{Form.Front, Form.Form, Form.form, Gathering.Outcome, Said.OfSection, Said.OfOffer, Said.OfTuning}
 use Rattle.rules.specs.{declared.Channel.Channel, declared.Signal.Signal, declared.Holding.Holding, declared.Revision.Revision}
-use Rattle.rules.specs.{declared.State.State, declared.Stepped.Stepped, declared.Answer.Answer, declared.Asked.Asked, declared.Tuned.Tuned}
+use Rattle.rules.specs.{declared.State.State, Steps.Stepped, declared.Answer.Answer, declared.Part.Part, declared.Tuned.Tuned}
 use Rattle.rules.specs.Section.{given, header_of, header_by, header, in_front, structure, revision, Content, content_of, content, whole, Reading}
 use Rattle.rules.specs.Section.{wrong, right, read, read_section, check_of, check, asked_of, ask}
 use Rattle.rules.specs.Gathering as Gathering
 use Rattle.rules.specs.Holding.{limit_of, store_size, holding_of, well_formed, all_of, has_other_last, is_repeat, gone_live, gathering, live_or_stored}
 use Rattle.rules.specs.Holding.{held_with, step_of, other_map, read_for, offered_as, offered, Box, answer_to, box}
 use Rattle.rules.specs.Tuning.{Plant, plant, found, hidden, tune_signal, tune_khz, tune_carrier, tune_channel, look_up, tune}
-use Rattle.rules.specs.declared.Answer.TheVariants.{Refused, OtherMap, Repeat, Stored, Live}
-use Rattle.rules.proofs.{Asking.first-answers, Reach.needs-so}
+use Rattle.rules.specs.declared.Answer.TheVariants.{OtherMap, Repeat, Stored, Live}
+use Rattle.rules.proofs.{Right.not_right, Reach.needs-so}
+use Rattle.rules.specs.Refusals.{OrRefused}
 
 -- ---- a section: 3 to 11
 
@@ -152,32 +153,29 @@ check-number s = go (read_section s) refl
     go (wrong n) e = inr (read_number s n e)
     go (right c) e = inl refl
 
-pub ask-number : (tag : ℕ) (s : List ℕ) (n : ℕ) → ask tag s ≡ Asked.Refused n → OfSection n
+pub ask-number : (tag : ℕ) (s : List ℕ) (n : ℕ) → ask tag s ≡ wrong n → OfSection n
 unfolding ask asked_of
 ask-number tag s n e = go (read_section s) refl e
   where
-    go : (r : Reading) → read_section s ≡ r → asked_of tag s r ≡ Asked.Refused n → OfSection n
+    go : (r : Reading) → read_section s ≡ r → asked_of tag s r ≡ wrong n → OfSection n
     go (wrong k) r q = let is : k ≡ n = cc in read_number s n (r ∙ ap wrong is)
-    go (right c) r q = absurd (first-answers tag _ c.closing n q)
+    go (right c) r q = absurd (not_right n _ (sym q))
 
 -- ---- an offer: 1, 2, those of a section, 12 and 13
 
-abbrev Answers : Answer → Type 0
-Answers (Refused n) = OfOffer n
-Answers OtherMap = Unit {0}
-Answers Repeat = Unit {0}
-Answers (Stored missing) = Unit {0}
-Answers (Live v) = Unit {0}
+abbrev Answers : OrRefused Answer → Type 0
+Answers (wrong n) = OfOffer n
+Answers (right a) = Unit {0}
 
 step-number : (limit : ℕ) (h : Holding) (r : Revision) → Answers (step_of limit h r).answer
 unfolding step_of live_or_stored
 step-number limit h r = go (leb limit r.last) (has_other_last h r) (is_repeat h r) (eqb (held_with h r) (all_of r.last))
   where
     go : (a b c d : Bool)
-        → Answers (cond {A = Stepped} a (record { answer = Refused 12; holding = h })
-        (cond b (record { answer = Refused 13; holding = h }) (cond c (record { answer = Repeat; holding = h })
-        (cond d (record { answer = Live r.version; holding = gone_live h r })
-        (record { answer = Stored (r.last + 1 - ones (held_with h r)); holding = gathering h r (held_with h r) }))))).answer
+        → Answers (cond {A = Stepped} a (record { answer = wrong 12; holding = h })
+        (cond b (record { answer = wrong 13; holding = h }) (cond c (record { answer = right Repeat; holding = h })
+        (cond d (record { answer = right (Live r.version); holding = gone_live h r })
+        (record { answer = right (Stored (r.last + 1 - ones (held_with h r))); holding = gathering h r (held_with h r) }))))).answer
     go true b c d = (omega arith, omega arith)
     go false true c d = (omega arith, omega arith)
     go false false true d = tt
@@ -190,7 +188,7 @@ offered-as-number s section (wrong n) e = let low = read_number section n e in (
 offered-as-number s section (right c) e = go (other_map s c)
   where
     go : (b : Bool)
-        → Answers (cond {A = Outcome State} b (record { answer = OtherMap; state = s })
+        → Answers (cond {A = Outcome State} b (record { answer = right OtherMap; state = s })
         (Gathering.stepped box s c.table (step_of (limit_of s) (holding_of s c.table) c.revision))).answer
     go true = tt
     go false = step-number (limit_of s) (holding_of s c.table) c.revision
@@ -200,28 +198,28 @@ unfolding Gathering.offered
 offered-number s store section = go (ltb (length store) (store_size (limit_of s))) (well_formed s)
   where
     go : (a b : Bool)
-        → Answers (cond {A = Outcome State} a (record { answer = Refused 1; state = s })
-        (cond (not b) (record { answer = Refused 2; state = s }) (Gathering.offered_as box s (read_for s section)))).answer
+        → Answers (cond {A = Outcome State} a (record { answer = wrong 1; state = s })
+        (cond (not b) (record { answer = wrong 2; state = s }) (Gathering.offered_as box s (read_for s section)))).answer
     go true b = (omega arith, omega arith)
     go false false = (omega arith, omega arith)
     go false true = offered-as-number s section (read_for s section) refl
 
-pub offer-number : (b : Box) (section : List ℕ) (n : ℕ) → answer_to b section ≡ Refused n → OfOffer n
+pub offer-number : (b : Box) (section : List ℕ) (n : ℕ) → answer_to b section ≡ wrong n → OfOffer n
 unfolding Gathering.answer_to
 offer-number b section n e = subst Answers e (offered-number b.state b.store section)
 
 -- ---- tuning: 1, 2, and 14 to 21
 
-abbrev Tunings : Tuned → Type 0
-Tunings (Tuned.Refused n) = OfTuning n
-Tunings (Tuned.Digital h path khz program mode) = Unit {0}
-Tunings (Tuned.Analogue h path khz standard scrambled) = Unit {0}
-Tunings (Tuned.Application h path source) = Unit {0}
+abbrev Tunings : OrRefused Tuned → Type 0
+Tunings (wrong n) = OfTuning n
+Tunings (right (Tuned.Digital h path khz program mode)) = Unit {0}
+Tunings (right (Tuned.Analogue h path khz standard scrambled)) = Unit {0}
+Tunings (right (Tuned.Application h path source)) = Unit {0}
 
 high : {n : ℕ} → 14 ≤ n → n ≤ 21 → OfTuning n
 high a b = inr (a, b)
 
-found-so : {R : Type 0} (o : Option R) (n : ℕ) (f : R → Tuned) → OfTuning n → ((r : R) → Tunings (f r)) → Tunings (found o n f)
+found-so : {R : Type 0} (o : Option R) (n : ℕ) (f : R → OrRefused Tuned) → OfTuning n → ((r : R) → Tunings (f r)) → Tunings (found o n f)
 unfolding found
 found-so none n f h k = h
 found-so (some r) n f h k = k r
@@ -236,7 +234,7 @@ channel-number : (p : Plant) (c : Channel) → Tunings (tune_channel p c)
 unfolding tune_channel tune_carrier tune_khz
 channel-number p c = go (eqb c.application 1)
   where
-    go : (b : Bool) → Tunings (cond b (Tuned.Application (hidden c) c.path c.source) (tune_carrier p c))
+    go : (b : Bool) → Tunings (cond b (right (Tuned.Application (hidden c) c.path c.source)) (tune_carrier p c))
     go true = tt
     go false =
         needs-so Tunings _ 19 _ (high (omega arith) (omega arith))
@@ -258,5 +256,5 @@ tunings s store number =
     (needs-so Tunings _ 16 _ (high (omega arith) (omega arith))
     (look-number (plant s store) number)))))
 
-pub tune-number : (s : State) (store : List ℕ) (number n : ℕ) → tune s store number ≡ Tuned.Refused n → OfTuning n
+pub tune-number : (s : State) (store : List ℕ) (number n : ℕ) → tune s store number ≡ wrong n → OfTuning n
 tune-number s store number n e = subst Tunings e (tunings s store number)

@@ -6,11 +6,11 @@ use Prim.Native.String.{String}
 use mathlib.Core.Path.{◌≡◌, refl}
 use mathlib.Core.Bool.{true, false}
 use mathlib.Core.List.{List, [], ◌∷◌, ◌++◌, map}
-use mathlib.Core.Option.{some}
+use mathlib.Core.Option.{none, some}
 use lib.ListN.{length, replicate}
 use Rattle.rules.specs.Layout.{Numbered}
 use Rattle.rules.specs.Tables.{Name, carriers_of, mode_of, channel_of, range_of, name_of}
-use Rattle.rules.specs.Section.{check, ask, part_of}
+use Rattle.rules.specs.Section.{check, part, ask, part_of}
 use Rattle.rules.specs.Holding.{none_live, none_gathered, fresh_holding, fresh, with, live_formed, gathered_formed, place_of, store_size, step_of}
 use Rattle.rules.specs.Holding.{offered, gathered_at}
 use Rattle.rules.specs.Search.{sections}
@@ -20,8 +20,7 @@ use Rattle.rules.specs.Lineup.{text, english, sections_of, refusals, channel_lin
 use Rattle.rules.specs.declared.Table.TheVariants.{Cds, Mms, Vcm, Dcm, Ntt}
 use Rattle.rules.specs.declared.Holding.{Holding}
 use Rattle.rules.specs.declared.State.{State}
-use Rattle.rules.specs.declared.Answer.TheVariants.{Refused, OtherMap, Repeat, Stored}
-use Rattle.rules.specs.declared.Asked.TheVariants as Asked
+use Rattle.rules.specs.declared.Answer.TheVariants.{OtherMap, Repeat, Stored}
 use Rattle.rules.specs.declared.Carriers.{Carriers}
 use Rattle.rules.specs.declared.Mode.{Mode}
 use Rattle.rules.specs.declared.Channel.{Channel}
@@ -30,6 +29,8 @@ use Rattle.rules.specs.declared.Tuned.TheVariants as Tuned
 use Rattle.rules.specs.declared.Labelled.TheVariants as Labelled
 use Rattle.rules.proofs.Hex.{hex}
 use Rattle.rules.proofs.Computed.{computed}
+use Rattle.rules.specs.Refusals.{wrong, right}
+use Rattle.std.specs.Prelude.{Some, None}
 
 -- version 5 with last 3 being gathered, and these numbers held
 abbrev pub holding5 : (held : ℕ) → Holding
@@ -133,11 +134,11 @@ pub record Readings : Type 0 where
   -- A27: the inverse channel map, subtype 2 of 0xC4, is not named
   pub a27 : check (hex "C4 30 0D 00 02 00 00 93 03 E5 00 00 43 23 D1 10") ≡ 7
   -- B1: only answers with a number are counted as refused
-  pub b1 : refusals (OtherMap ∷ Repeat ∷ Refused 3 ∷ []) ≡ 1
+  pub b1 : refusals (right OtherMap ∷ right Repeat ∷ wrong 3 ∷ []) ≡ 1
   -- B2: a section of another map is other map, whatever its last
-  pub b2 : (offered (fresh 0 english) (replicate 40960 0) (hex "C4 30 14 00 00 00 01 00 00 00 00 00 00 00 93 03 E5 00 09 9A DA AE 56")).answer ≡ OtherMap
+  pub b2 : (offered (fresh 0 english) (replicate 40960 0) (hex "C4 30 14 00 00 00 01 00 00 00 00 00 00 00 93 03 E5 00 09 9A DA AE 56")).answer ≡ right OtherMap
   -- B3: and refused where it does not read right
-  pub b3 : (offered (fresh 0 english) (replicate 40960 0) (hex "C4 30 14 00 00 00 01 00 00 00 00 00 00 00 93 03 E5 02 01 1C 20 DD E1")).answer ≡ Refused 11
+  pub b3 : (offered (fresh 0 english) (replicate 40960 0) (hex "C4 30 14 00 00 00 01 00 00 00 00 00 00 00 93 03 E5 02 01 1C 20 DD E1")).answer ≡ wrong 11
   -- B8: the half set is used as it stands where nothing is live
   pub b8 : gathered_at (with (fresh 0 english) Cds (record { live = none_live; gathered = none_gathered; half = 0 })) Cds 0 ≡ 4096
   -- B9: nothing live, and a last that is not zero
@@ -148,34 +149,34 @@ pub record Readings : Type 0 where
   pub places : map (λ t. place_of 4 t 1 3) (Cds ∷ Mms ∷ Vcm ∷ Dcm ∷ Ntt ∷ []) ≡ 7 * 1024 ∷ 15 * 1024 ∷ 23 * 1024 ∷ 31 * 1024 ∷ 39 * 1024 ∷ []
   pub places_all : store_size 4 ≡ 40960
   -- last + 1 less those held: of 0 to 3 first 2, then 0, then 3
-  pub missing : step_of 4 fresh_holding (record { version = 5; number = 2; last = 3 }) ≡ record { answer = Stored 3; holding = holding5 0x04 }
-  pub missing_two : step_of 4 (holding5 0x04) (record { version = 5; number = 0; last = 3 }) ≡ record { answer = Stored 2; holding = holding5 0x05 }
-  pub missing_one : step_of 4 (holding5 0x05) (record { version = 5; number = 3; last = 3 }) ≡ record { answer = Stored 1; holding = holding5 0x0D }
+  pub missing : step_of 4 fresh_holding (record { version = 5; number = 2; last = 3 }) ≡ record { answer = right (Stored 3); holding = holding5 0x04 }
+  pub missing_two : step_of 4 (holding5 0x04) (record { version = 5; number = 0; last = 3 }) ≡ record { answer = right (Stored 2); holding = holding5 0x05 }
+  pub missing_one : step_of 4 (holding5 0x05) (record { version = 5; number = 3; last = 3 }) ≡ record { answer = right (Stored 1); holding = holding5 0x0D }
   -- T1: the first covering range decides, also where it says not defined
-  pub t1 : look_up (plant_of c1 c9 (range 3 "01" ++ range 3 "81")) 3 ≡ Tuned.Refused 17
+  pub t1 : look_up (plant_of c1 c9 (range 3 "01" ++ range 3 "81")) 3 ≡ wrong 17
   -- T2: sections come by their number, lowest first; here each holds one record, its number
   pub t2 : sections (λ n. n ∷ []) 3 0 ≡ 0 ∷ 1 ∷ 2 ∷ []
   -- T3: the first carrier of an index ends the search, also where it is out of range
-  pub t3 : look_up (plant_of (carrier 2 "01 00 00 15 17" ++ c1) c9 (range 3 "81")) 3 ≡ Tuned.Refused 20
+  pub t3 : look_up (plant_of (carrier 2 "01 00 00 15 17" ++ c1) c9 (range 3 "81")) 3 ≡ wrong 20
   -- T4: so does the first record of a channel, here with carrier reference 0 (T9)
-  pub t4 : look_up (plant_of c1 (channel "00 03 00 12 34 00 00 03 01" ++ c9) (range 3 "81")) 3 ≡ Tuned.Refused 19
+  pub t4 : look_up (plant_of c1 (channel "00 03 00 12 34 00 00 03 01" ++ c9) (range 3 "81")) 3 ≡ wrong 19
   -- T6: an application channel has to be defined too
-  pub t6 : look_up (plant_of c1 (channel "00 03 80 00 07 02 00 03 01") (range 4 "81")) 3 ≡ Tuned.Refused 17
+  pub t6 : look_up (plant_of c1 (channel "00 03 80 00 07 02 00 03 01") (range 4 "81")) 3 ≡ wrong 17
   -- T7: a hidden channel tunes
-  pub t7 : look_up (plant_of c1 (channel "00 03 01 12 34 02 00 03 01") (range 3 "81")) 3 ≡ Tuned.Digital 1 0 63000 3 c12
+  pub t7 : look_up (plant_of c1 (channel "00 03 01 12 34 02 00 03 01") (range 3 "81")) 3 ≡ right (Tuned.Digital 1 0 63000 3 c12)
   -- T10: programme 0 tunes
-  pub t10 : look_up (plant_of c1 (channel "00 03 00 12 34 02 00 00 01") (range 3 "81")) 3 ≡ Tuned.Digital 0 0 63000 0 c12
+  pub t10 : look_up (plant_of c1 (channel "00 03 00 12 34 02 00 00 01") (range 3 "81")) 3 ≡ right (Tuned.Digital 0 0 63000 0 c12)
   -- T11: without the modes no channel is looked up, of whatever kind
   pub t11 : tune
       (record { tables = record { cds = live5; mms = fresh_holding; vcm = live5; dcm = live5; ntt = live5 }; settings = record { map = 0; language = english } })
-      (replicate 40960 0) 8 ≡ Tuned.Refused 15
+      (replicate 40960 0) 8 ≡ wrong 15
   -- T16: a frequency out of range comes before a mode that is missing
-  pub t16 : look_up (plant_of (carrier 2 "01 00 00 15 17") (channel "00 03 00 12 34 02 00 03 00") (range 3 "81")) 3 ≡ Tuned.Refused 20
+  pub t16 : look_up (plant_of (carrier 2 "01 00 00 15 17") (channel "00 03 00 12 34 02 00 03 00") (range 3 "81")) 3 ≡ wrong 20
   -- T17: a fresh box answers 14 before 15
-  pub t17 : map (tune (fresh 0 english) (replicate 40960 0)) (4095 ∷ 4096 ∷ []) ≡ Tuned.Refused 15 ∷ Tuned.Refused 14 ∷ []
+  pub t17 : map (tune (fresh 0 english) (replicate 40960 0)) (4095 ∷ 4096 ∷ []) ≡ wrong 15 ∷ wrong 14 ∷ []
   -- D1: hidden and path stand in the lines of all three kinds (the digital one is a part of `examples`)
-  pub d1 : channel_line 3 (Tuned.Application 0 1 7) ≡ text "channel=3 kind=application hidden=0 path=1 application=7\n" ∷ []
-  pub d1_analogue : channel_line 8 (Tuned.Analogue 1 0 63000 4 1) ≡ text "channel=8 kind=analogue hidden=1 path=0 khz=63000 standard=4 scrambled=1\n" ∷ []
+  pub d1 : channel_line 3 (right (Tuned.Application 0 1 7)) ≡ text "channel=3 kind=application hidden=0 path=1 application=7\n" ∷ []
+  pub d1_analogue : channel_line 8 (right (Tuned.Analogue 1 0 63000 4 1)) ≡ text "channel=8 kind=analogue hidden=1 path=0 khz=63000 standard=4 scrambled=1\n" ∷ []
   -- D3: a last section of one byte is offered as it is
   pub d3 : sections_of (hex "C2") ≡ hex "C2" ∷ []
   -- D4: L above 1,021 takes 3 + L bytes too
@@ -185,15 +186,15 @@ pub record Readings : Type 0 where
   -- D6: L 0 takes three bytes
   pub d6 : sections_of (hex "00 00 00 00 00 00") ≡ hex "00 00 00" ∷ hex "00 00 00" ∷ []
   -- E1: an empty body is there
-  pub e1 : ask 0x80 (hex "C2 30 0F 00 01 00 01 93 03 E5 00 00 80 00 B0 9C 27 D7") ≡ Asked.There 14 0
-  pub e1_none : ask 0x81 (hex "C2 30 0F 00 01 00 01 93 03 E5 00 00 80 00 B0 9C 27 D7") ≡ Asked.Absent
+  pub e1 : ask 0x80 (hex "C2 30 0F 00 01 00 01 93 03 E5 00 00 80 00 B0 9C 27 D7") ≡ right (Some (part 14 0))
+  pub e1_none : ask 0x81 (hex "C2 30 0F 00 01 00 01 93 03 E5 00 00 80 00 B0 9C 27 D7") ≡ right None
   -- E2: asked of a section that does not read right, the refusal
-  pub e2 : ask 0x80 (hex "C2 30 0F") ≡ Asked.Refused 3
+  pub e2 : ask 0x80 (hex "C2 30 0F") ≡ wrong 3
   -- E3: the first of two with the same tag, and its body as a part of the section; and none where the tag stands only in a
   -- record's list
-  pub e3 : ask 0x80 (hex "C2 30 14 00 01 00 01 80 01 AA 80 02 BB CC 93 03 E5 00 00 72 EA 28 5E") ≡ Asked.There 9 1
-  pub e3_part : part_of (hex "C2 30 14 00 01 00 01 80 01 AA 80 02 BB CC 93 03 E5 00 00 72 EA 28 5E") (Asked.There 9 1) ≡ 0xAA ∷ []
-  pub e3_record : ask 0x81 (hex "C2 30 16 00 01 01 01 02 80 30 81 C8 01 81 01 EE 93 03 E5 00 00 D8 EA 0D 47") ≡ Asked.Absent
+  pub e3 : ask 0x80 (hex "C2 30 14 00 01 00 01 80 01 AA 80 02 BB CC 93 03 E5 00 00 72 EA 28 5E") ≡ right (Some (part 9 1))
+  pub e3_part : part_of (hex "C2 30 14 00 01 00 01 80 01 AA 80 02 BB CC 93 03 E5 00 00 72 EA 28 5E") (right (Some (part 9 1))) ≡ 0xAA ∷ []
+  pub e3_record : ask 0x81 (hex "C2 30 16 00 01 01 01 02 80 30 81 C8 01 81 01 EE 93 03 E5 00 00 D8 EA 0D 47") ≡ right None
   -- ---- request 2026-01, names: n1 is Q1 of the readings, and so on; those that no input tells apart, or that are theorems, have no part here
   -- N1: the record count is a head of its own: 9 of the header before the 8 of a count that is cut
   pub n1 : check (hex "C3 70 09 00 65 6E 67 06 AA 56 E2 7A") ≡ 9
@@ -217,17 +218,17 @@ pub record Readings : Type 0 where
   pub n7 : check (hex "C3 30 19 00 65 6E 67 06 01 00 12 34 05 00 03 00 7F 80 00 93 03 E5 00 00 F9 0B A1 88") ≡ 0
   pub n7_empty : check (hex "C3 30 16 00 65 6E 67 06 01 00 12 34 02 00 00 00 93 03 E5 00 00 7A 5D CD 65") ≡ 0
   -- N9: FF FF FF is a language like others, no wild card; "ENG" is another than "eng"
-  pub n9 : (offered (fresh 0 english) (replicate 40960 0) (hex "C3 30 0F 00 FF FF FF 06 00 93 03 E5 00 00 50 4A 4A A0")).answer ≡ OtherMap
-  pub n9_case : (offered (fresh 0 english) (replicate 40960 0) (hex "C3 30 0F 00 45 4E 47 06 00 93 03 E5 00 00 08 39 38 9C")).answer ≡ OtherMap
+  pub n9 : (offered (fresh 0 english) (replicate 40960 0) (hex "C3 30 0F 00 FF FF FF 06 00 93 03 E5 00 00 50 4A 4A A0")).answer ≡ right OtherMap
+  pub n9_case : (offered (fresh 0 english) (replicate 40960 0) (hex "C3 30 0F 00 45 4E 47 06 00 93 03 E5 00 00 08 39 38 9C")).answer ≡ right OtherMap
   -- N10: all bytes of the name are the label, mode and length too; the fallback's bytes are as they are lent, no text or none at all
-  pub n10 : label_bytes (hex "00 12 34 03 00 01 41") [] (label_of (some (record { row = name_is "00 12 34 03 00 01 41"; at = 0 }))) ≡ hex "00 01 41"
-  pub n10_fallback : map (λ lent. label_bytes [] lent Labelled.Fallback) (hex "07" ∷ [] ∷ []) ≡ hex "07" ∷ [] ∷ []
+  pub n10 : label_bytes (hex "00 12 34 03 00 01 41") [] (right (label_of (some (record { row = name_is "00 12 34 03 00 01 41"; at = 0 })))) ≡ hex "00 01 41"
+  pub n10_fallback : map (λ lent. label_bytes [] lent (right Labelled.Fallback)) (hex "07" ∷ [] ∷ []) ≡ hex "07" ∷ [] ∷ []
   -- N12: number 0 is a number like others
   pub n12 : is_name 0 0 (name_is "00 00 00 03 00 01 41") ≡ true
   -- N13: a channel that doesn't tune has a label, here one without a carrier reference (T4)
-  pub n13 : channel_label (fresh 0 english) [] (some (channel_is "00 03 00 12 34 00 00 03 01")) ≡ Labelled.Fallback
+  pub n13 : channel_label (fresh 0 english) [] (some (channel_is "00 03 00 12 34 00 00 03 01")) ≡ right Labelled.Fallback
   -- 14 comes before 15; of live names a place that doesn't read is 16, of names that are only gathered none is looked at
-  pub n13_order : map (labelled (fresh 0 english) (replicate 40960 0)) (4095 ∷ 4096 ∷ []) ≡ Labelled.Refused 15 ∷ Labelled.Refused 14 ∷ []
+  pub n13_order : map (labelled (fresh 0 english) (replicate 40960 0)) (4095 ∷ 4096 ∷ []) ≡ wrong 15 ∷ wrong 14 ∷ []
   pub n13_names : names_read (with_names live5) (replicate 40960 0) ∷ names_read (with_names (holding5 0x01)) (replicate 40960 0) ∷ [] ≡ false ∷ true ∷ []
   -- N14: the first record with the flag and the number, both: the third of four, which stands at 25 of its place
   pub n14 :
@@ -235,7 +236,7 @@ pub record Readings : Type 0 where
       (replicate 32768 0 ++ hex "C3 30 2F 00 65 6E 67 06 04 00 12 34 03 00 01 41 00 80 12 35 03 00 01 42 00 80"
       ++ hex "12 34 03 00 01 43 00 80 12 34 03 00 01 44 00 93 03 E5 00 00 85 E8 04 95")
       (some (channel_is "00 03 80 12 34 00 00 00 00"))
-      ≡ Labelled.Named 32797 3
+      ≡ right (Labelled.Named 32797 3)
   -- N15: ntt stands between dcm and channels; the C question answers 0 to names of any language
   pub n15 :
       heading (fresh 7 english) 1 2 3

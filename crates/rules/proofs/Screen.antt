@@ -22,6 +22,7 @@ use Rattle.rules.specs.{declared.Table.Table, declared.Channel.Channel, declared
 use Rattle.rules.specs.declared.Table.TheVariants.{Cds, Mms, Vcm, Dcm, Ntt}
 use Rattle.rules.proofs.{States.lawful, States.all-fresh, Sent.live-sent, Answered.answered, Lowest.live-lowest, Firsts.parted, Firsts.nothing-in}
 use Rattle.rules.proofs.{Places.from-length, SentOnce.sent_once, Labels.named-is}
+use Rattle.rules.specs.Refusals.{OrRefused}
 
 -- ---- tuning
 
@@ -102,7 +103,7 @@ module _ (start : Box) (new : (t : Table) → holding_of start.state t ≡ fresh
     mode-sent reference m some f =
         record { refers = some; entry = m; sent = record-sent (ModeIs reference) modes_in Mms (on.live Mms refl) m f; is = refl }
 
-    tuned-sent : (e : Numbered Channel) (x : Tuned) → Defined p number → First (ChannelIs number) p.channels e → Tunes p e.what x
+    tuned-sent : (e : Numbered Channel) (x : OrRefused Tuned) → Defined p number → First (ChannelIs number) p.channels e → Tunes p e.what x
         → Screen start sections number x
     tuned-sent e x d f (application is) = Sent.application (channel_sent e d f) is
     tuned-sent e x d f (no_carrier a b) = Sent.refused
@@ -112,7 +113,7 @@ module _ (start : Box) (new : (t : Table) → holding_of start.state t ≡ fresh
     tuned-sent e x d f (digital {m = m} a k low most is some first) =
         Sent.digital (channel_sent e d f) a is (frequency-sent e.what _ k low most) (mode-sent _ m some first)
 
-    looked-sent : (x : Tuned) → Looked p number x → Screen start sections number x
+    looked-sent : (x : OrRefused Tuned) → Looked p number x → Screen start sections number x
     looked-sent x (not_defined n) = Sent.refused
     looked-sent x (no_record d n) = Sent.refused
     looked-sent x (recorded {e = e} d f t) = tuned-sent e x d f t
@@ -120,7 +121,7 @@ module _ (start : Box) (new : (t : Table) → holding_of start.state t ≡ fresh
   pub screen-sent : (number : ℕ) → Screen start sections number (tune end.state end.store number)
   screen-sent number = go (tune end.state end.store number) (answered end.state end.store number)
     where
-      go : (x : Tuned) → Answered end.state end.store number x → Screen start sections number x
+      go : (x : OrRefused Tuned) → Answered end.state end.store number x → Screen start sections number x
       go x (short h) = Sent.refused
       go x (unformed h f) = Sent.refused
       go x (high h f n) = Sent.refused
@@ -150,22 +151,22 @@ alone x [] line behind e = let is : x ≡ line = cc in ap (λ (l : List ℕ). l 
 alone x (y ∷ before) line behind e = absurd (nothing-in before line behind cc)
 
 -- a channel has one line or none
-one_line : (number : ℕ) (x : Tuned) (before : List (List ℕ)) (line : List ℕ) (behind : List (List ℕ))
+one_line : (number : ℕ) (x : OrRefused Tuned) (before : List (List ℕ)) (line : List ℕ) (behind : List (List ℕ))
     → channel_line number x ≡ before ++ (line ∷ behind) → channel_line number x ≡ line ∷ []
 unfolding channel_line
-one_line number (Tuned.Refused n) before line behind e = absurd (nothing-in before line behind e)
-one_line number (Tuned.Digital h p k g m) before line behind e = alone _ before line behind e
-one_line number (Tuned.Analogue h p k s c) before line behind e = alone _ before line behind e
-one_line number (Tuned.Application h p a) before line behind e = alone _ before line behind e
+one_line number (wrong n) before line behind e = absurd (nothing-in before line behind e)
+one_line number (right (Tuned.Digital h p k g m)) before line behind e = alone _ before line behind e
+one_line number (right (Tuned.Analogue h p k s c)) before line behind e = alone _ before line behind e
+one_line number (right (Tuned.Application h p a)) before line behind e = alone _ before line behind e
 
 -- a line of n channels from a number on is that of one of them
-record Of (tuned : ℕ → Tuned) (n number : ℕ) (line : List ℕ) : Type 0 where
+record Of (tuned : ℕ → OrRefused Tuned) (n number : ℕ) (line : List ℕ) : Type 0 where
   channel : ℕ
   from : number ≤ channel
   low : channel < number + n
   is : channel_line channel (tuned channel) ≡ line ∷ []
 
-line-of : (tuned : ℕ → Tuned) (n number : ℕ) (above : List (List ℕ)) (line : List ℕ) (below : List (List ℕ))
+line-of : (tuned : ℕ → OrRefused Tuned) (n number : ℕ) (above : List (List ℕ)) (line : List ℕ) (below : List (List ℕ))
     → channel_lines (λ k. channel_line k (tuned k)) n number ≡ above ++ (line ∷ below) → Of tuned n number line
 unfolding channel_lines
 line-of tuned zero number above line below e = absurd (nothing-in above line below e)

@@ -8,7 +8,7 @@ use mathlib.Core.{Logic.◌⊎◌, Logic.inl, Logic.inr, Bool.true, Bool.false}
 use mathlib.Core.List.{List, [], ◌∷◌, ◌++◌, append-nil, append_assoc}
 use lib.Dec.{eqb}
 use borrow.Author.Tests.{eqb-true, eq-eqb}
-use Rattle.rules.specs.{declared.Holding.Holding, declared.Revision.Revision, declared.Stepped.Stepped, Answered.First, Answered.Nowhere}
+use Rattle.rules.specs.{declared.Holding.Holding, declared.Revision.Revision, Steps.Stepped, Answered.First, Answered.Nowhere}
 use Rattle.rules.specs.Steps.{none_live, none_gathered, fresh_holding, holds, is_live, is_gathered, holding_formed, has_other_last, is_repeat, held_with}
 use Rattle.rules.specs.Steps.{all_of, gone_live, gathering, step_of, takes_in}
 use Rattle.rules.specs.Gathering.{Collector, BoxOf, place_of, section_at, live_at, gathered_at, answer_to, box_after, run}
@@ -23,6 +23,7 @@ use Rattle.rules.proofs.Steps.{gathered-says, gathered-so, gathered-last, has-sa
 use Rattle.rules.proofs.Offers.{not-of, passed-sound, taken_in, untouched, reads_kept, aside-kept, limit-kept, others-kept}
 use Rattle.rules.proofs.Offers.{step-answers, step-holds}
 use Rattle.rules.proofs.Firsts.{nowhere-none, nowhere-end, first-end, first_more}
+use Rattle.rules.specs.Refusals.{right}
 
 -- a section of the gathered version, with its last number, whose own number is not held: neither 13 nor a repeat
 module _ (limit : ℕ) (h : Holding) (n : ℕ) (good : holding_formed limit h ≡ true) (on : h.gathered.present ≡ 1) where
@@ -337,7 +338,7 @@ module _ {T S C : Type 0} (co : Collector T S C) where
               → SentAs co start further t n (section_at co after.store (live_at co after.state t n))
 
         -- it completes its version
-        went : answer_to co b x ≡ Live r.version → held_with h r ≡ all_of r.last → holding_of after.state t ≡ gone_live h r → Own
+        went : answer_to co b x ≡ right (Live r.version) → held_with h r ≡ all_of r.last → holding_of after.state t ≡ gone_live h r → Own
         unfolding gone_live none_gathered live_at gathered_at run
         went answer all is =
             record {

@@ -17,6 +17,7 @@ use Rattle.rules.specs.declared.Signal.TheVariants as Signal
 use Rattle.rules.specs.declared.Range.{Range}
 use Rattle.rules.specs.declared.State.{State}
 use Rattle.rules.specs.declared.Tuned.{Tuned}
+use Rattle.rules.specs.Refusals.{OrRefused, wrong}
 
 -- ---- "the first match ends the search, for channels, carriers, modes and DCM ranges alike"
 
@@ -63,25 +64,25 @@ pub record Carried (p : Plant) (c : Channel) (khz : ℕ) : Type 0 where
   pub first : First (CarrierIs c.carrier) p.carriers entry
   pub is : khz ≡ carrier_khz entry.what (c.carrier - entry.index)
 
-pub data Tunes (p : Plant) (c : Channel) : Tuned → Type 0 where
+pub data Tunes (p : Plant) (c : Channel) : OrRefused Tuned → Type 0 where
   -- "An application channel answers its application number, path and hidden flag and needs no carrier."
-  application : c.application ≡ 1 → Tunes p c (Tuned.Application (hidden c) c.path c.source)
+  application : c.application ≡ 1 → Tunes p c (right (Tuned.Application (hidden c) c.path c.source))
   -- 19: "carrier reference 0 or without a carrier"
-  no_carrier : (c.application ≡ 1 → ⊥) → (c.carrier ≡ 0) ⊎ Nowhere (CarrierIs c.carrier) p.carriers → Tunes p c (Tuned.Refused 19)
+  no_carrier : (c.application ≡ 1 → ⊥) → (c.carrier ≡ 0) ⊎ Nowhere (CarrierIs c.carrier) p.carriers → Tunes p c (wrong 19)
   -- 20: "frequency below 54,000 or above 1,002,000 kHz"
-  out_of_reach : {khz : ℕ} → (c.application ≡ 1 → ⊥) → Carried p c khz → (khz < 54000) ⊎ (1002000 < khz) → Tunes p c (Tuned.Refused 20)
+  out_of_reach : {khz : ℕ} → (c.application ≡ 1 → ⊥) → Carried p c khz → (khz < 54000) ⊎ (1002000 < khz) → Tunes p c (wrong 20)
   -- "analogue (frequency, standard, scrambled), with path and hidden"
   analogue : {khz scrambled standard : ℕ} → (c.application ≡ 1 → ⊥) → Carried p c khz → 54000 ≤ khz → khz ≤ 1002000
       → c.signal ≡ Signal.Analogue scrambled standard
-      → Tunes p c (Tuned.Analogue (hidden c) c.path khz standard scrambled)
+      → Tunes p c (right (Tuned.Analogue (hidden c) c.path khz standard scrambled))
   -- 21: "digital, and mode reference 0 or without a record"
   no_mode : {khz program mode : ℕ} → (c.application ≡ 1 → ⊥) → Carried p c khz → 54000 ≤ khz → khz ≤ 1002000
       → c.signal ≡ Signal.Digital program mode
-      → (mode ≡ 0) ⊎ Nowhere (ModeIs mode) p.modes → Tunes p c (Tuned.Refused 21)
+      → (mode ≡ 0) ⊎ Nowhere (ModeIs mode) p.modes → Tunes p c (wrong 21)
   -- "digital (frequency, programme, mode record) .. with path and hidden"
   digital : {khz program mode : ℕ} {m : Numbered Mode} → (c.application ≡ 1 → ⊥) → Carried p c khz → 54000 ≤ khz → khz ≤ 1002000
       → c.signal ≡ Signal.Digital program mode
-      → 0 < mode → First (ModeIs mode) p.modes m → Tunes p c (Tuned.Digital (hidden c) c.path khz program m.what)
+      → 0 < mode → First (ModeIs mode) p.modes m → Tunes p c (right (Tuned.Digital (hidden c) c.path khz program m.what))
 
 -- ---- what a channel number is tuned to
 
@@ -91,13 +92,13 @@ pub record Defined (p : Plant) (number : ℕ) : Type 0 where
   pub first : First (RangeIs number) p.ranges range
   pub is : range.what.defined ≡ 1
 
-pub data Looked (p : Plant) (number : ℕ) : Tuned → Type 0 where
+pub data Looked (p : Plant) (number : ℕ) : OrRefused Tuned → Type 0 where
   -- 17: "channel not defined"
   not_defined : Nowhere (RangeIs number) p.ranges ⊎ ((r : Numbered Range) × First (RangeIs number) p.ranges r × (r.what.defined ≡ 1 → ⊥))
-      → Looked p number (Tuned.Refused 17)
+      → Looked p number (wrong 17)
   -- 18: "defined, but no channel record"
-  no_record : Defined p number → Nowhere (ChannelIs number) p.channels → Looked p number (Tuned.Refused 18)
-  recorded : {e : Numbered Channel} {t : Tuned} → Defined p number → First (ChannelIs number) p.channels e → Tunes p e.what t → Looked p number t
+  no_record : Defined p number → Nowhere (ChannelIs number) p.channels → Looked p number (wrong 18)
+  recorded : {e : Numbered Channel} {t : OrRefused Tuned} → Defined p number → First (ChannelIs number) p.channels e → Tunes p e.what t → Looked p number t
 
 -- ---- refusals 15 and 16: the live places of the tables that tuning needs
 
@@ -125,23 +126,23 @@ pub record Askable (s : State) (store : List ℕ) (number : ℕ) : Type 0 where
   pub good : StateFormed s
   pub low : number ≤ 4095
 
-pub data Answered (s : State) (store : List ℕ) (number : ℕ) : Tuned → Type 0 where
+pub data Answered (s : State) (store : List ℕ) (number : ℕ) : OrRefused Tuned → Type 0 where
   -- 1: a store shorter than all places
-  short : length store < store_size (limit_of s) → Answered s store number (Tuned.Refused 1)
+  short : length store < store_size (limit_of s) → Answered s store number (wrong 1)
   -- 2: "state not well formed" (specs/Formed.antt)
-  unformed : store_size (limit_of s) ≤ length store → (StateFormed s → ⊥) → Answered s store number (Tuned.Refused 2)
+  unformed : store_size (limit_of s) ≤ length store → (StateFormed s → ⊥) → Answered s store number (wrong 2)
   -- 14: "channel number above 4095"
-  high : store_size (limit_of s) ≤ length store → StateFormed s → 4095 < number → Answered s store number (Tuned.Refused 14)
+  high : store_size (limit_of s) ≤ length store → StateFormed s → 4095 < number → Answered s store number (wrong 14)
   -- 15: a table that tuning needs isn't live
-  not_live : Askable s store number → (EachLive s → ⊥) → Answered s store number (Tuned.Refused 15)
+  not_live : Askable s store number → (EachLive s → ⊥) → Answered s store number (wrong 15)
   -- 16: "a place of a live table no longer reads right as that table, map, version, number and last"
-  unread : Askable s store number → EachLive s → (EachReads s store → ⊥) → Answered s store number (Tuned.Refused 16)
+  unread : Askable s store number → EachLive s → (EachReads s store → ⊥) → Answered s store number (wrong 16)
   -- 17 to 21, or what it is tuned to: by the live records
-  looked_up : {x : Tuned} → Askable s store number → EachLive s → EachReads s store → Looked (plant s store) number x → Answered s store number x
+  looked_up : {x : OrRefused Tuned} → Askable s store number → EachLive s → EachReads s store → Looked (plant s store) number x → Answered s store number x
 
 -- ---- the frequency that the tuner is sent to
-unfoldable pub khz_of : Tuned → Option ℕ
-khz_of (Tuned.Refused n) = none
-khz_of (Tuned.Digital h path khz program mode) = some khz
-khz_of (Tuned.Analogue h path khz standard scrambled) = some khz
-khz_of (Tuned.Application h path source) = none
+unfoldable pub khz_of : OrRefused Tuned → Option ℕ
+khz_of (wrong n) = none
+khz_of (right (Tuned.Digital h path khz program mode)) = some khz
+khz_of (right (Tuned.Analogue h path khz standard scrambled)) = some khz
+khz_of (right (Tuned.Application h path source)) = none

@@ -3,13 +3,12 @@
 use Rattle.std.specs.Prelude.{ℕ, ◌+◌, ◌-◌, ◌*◌, Bool, cond, not, List, [], ◌∷◌, ◌++◌, length, take, drop, ltb}
 use Rattle.std.proofs.Math.Option.{Option, none, some}
 use Rattle.rules.specs.Bytes.{from}
-use Rattle.rules.specs.Section.{ReadingOf, wrong, right, length_of}
-use Rattle.rules.specs.Steps.{step_of, takes_in}
+use Rattle.rules.specs.Section.{wrong, right, length_of}
+use Rattle.rules.specs.Steps.{Stepped, step_of, takes_in}
 use Rattle.rules.specs.declared.Holding.{Holding}
 use Rattle.rules.specs.declared.Revision.{Revision}
-use Rattle.rules.specs.declared.Stepped.{Stepped}
 use Rattle.rules.specs.declared.Answer.{Answer}
-use Rattle.rules.specs.declared.Answer.TheVariants.{Refused}
+use Rattle.rules.specs.Refusals.{OrRefused}
 
 -- of tables T, with states S, that reads sections as contents C
 pub record Collector (T S C : Type 0) : Type 1 where
@@ -25,7 +24,7 @@ pub record Collector (T S C : Type 0) : Type 1 where
   pub formed : S → Bool
   pub Formed : S → Type 0
   -- a section: its refusal or its content, as a box of that state reads it; of which table and revision it is
-  pub read : S → (section : List ℕ) → ReadingOf C
+  pub read : S → (section : List ℕ) → OrRefused C
   pub table : C → T
   pub revision : C → Revision
   -- step 1: whether a section that reads right is set aside, by test and in words, and the word that is answered then
@@ -40,7 +39,7 @@ pub record BoxOf (S : Type 0) : Type 0 where
 
 -- an answer and the state after it
 pub record Outcome (S : Type 0) : Type 0 where
-  pub answer : Answer
+  pub answer : OrRefused Answer
   pub state : S
 
 -- a section's bytes put at the front of a place: the rest of it, all other places and any bytes behind the last place stay
@@ -78,21 +77,21 @@ module _ {T S C : Type 0} (k : Collector T S C) where
   unfoldable pub stepped : S → T → Stepped → Outcome S
   stepped s t r = record { answer = r.answer; state = k.with s t r.holding }
 
-  unfoldable pub offered_as : S → ReadingOf C → Outcome S
-  offered_as s (wrong n) = record { answer = Refused n; state = s }
+  unfoldable pub offered_as : S → OrRefused C → Outcome S
+  offered_as s (wrong n) = record { answer = wrong n; state = s }
   offered_as s (right c) =
-      cond (k.aside s c) (record { answer = k.word s c; state = s })
+      cond (k.aside s c) (record { answer = right (k.word s c); state = s })
       (stepped s (k.table c) (step_of (k.limit s) (k.holding s (k.table c)) (k.revision c)))
 
   -- refusals 1 and 2 come first
   unfoldable pub offered : S → (store section : List ℕ) → Outcome S
   offered s store section =
-      cond (ltb (length store) (store_size (k.limit s))) (record { answer = Refused 1; state = s })
-      (cond (not (k.formed s)) (record { answer = Refused 2; state = s })
+      cond (ltb (length store) (store_size (k.limit s))) (record { answer = wrong 1; state = s })
+      (cond (not (k.formed s)) (record { answer = wrong 2; state = s })
       (offered_as s (k.read s section)))
 
   -- whose table a section touches, if it touches one: none where it does not read right or is set aside
-  unfoldable pub touched_by : S → ReadingOf C → Option T
+  unfoldable pub touched_by : S → OrRefused C → Option T
   touched_by s (wrong n) = none
   touched_by s (right c) = cond (k.aside s c) none (some (k.table c))
 
@@ -101,7 +100,7 @@ module _ {T S C : Type 0} (k : Collector T S C) where
 
   -- ---- an offer: the store after it
 
-  unfoldable pub put_as : S → List ℕ → (section : List ℕ) → ReadingOf C → List ℕ
+  unfoldable pub put_as : S → List ℕ → (section : List ℕ) → OrRefused C → List ℕ
   put_as s store section (wrong n) = store
   put_as s store section (right c) = put store (gathered_at s (k.table c) (k.revision c).number) section
 
@@ -112,7 +111,7 @@ module _ {T S C : Type 0} (k : Collector T S C) where
 
   -- ---- a run of offers to one box
 
-  unfoldable pub answer_to : BoxOf S → (section : List ℕ) → Answer
+  unfoldable pub answer_to : BoxOf S → (section : List ℕ) → OrRefused Answer
   answer_to b section = (offered b.state b.store section).answer
 
   unfoldable pub box_after : BoxOf S → (section : List ℕ) → BoxOf S
@@ -126,6 +125,6 @@ module _ {T S C : Type 0} (k : Collector T S C) where
   run b [] = b
   run b (s ∷ ss) = run (box_after b s) ss
 
-  unfoldable pub answers : BoxOf S → (sections : List (List ℕ)) → List Answer
+  unfoldable pub answers : BoxOf S → (sections : List (List ℕ)) → List (OrRefused Answer)
   answers b [] = []
   answers b (s ∷ ss) = answer_to b s ∷ answers (box_after b s) ss

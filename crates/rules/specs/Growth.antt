@@ -5,13 +5,15 @@
 -- body (003 reserves bits in some); and a length or count may pass its field. One above 255 is no byte, so no section that can be sent has
 -- such a one; here numbers need not be bytes.
 use Rattle.std.specs.Prelude.{ℕ, ◌/◌, ◌%◌, ◌≤◌, ◌≡◌, true, List, [], ◌∷◌, length, take, drop}
+use Rattle.std.specs.Prelude.{Option, Some, None}
 use Rattle.rules.specs.Bytes.{byte}
 use Rattle.rules.specs.Crc.{crc_of}
 use Rattle.rules.specs.Descriptors.{Descriptor}
 use Rattle.rules.specs.Form.{form}
 use Rattle.rules.specs.Section.{is_number, revision_tag, Content, right, read_section, fitting, without_crc}
 use Rattle.rules.specs.Parts.{Piece, Parts, bytes_of, Shaped}
-use Rattle.rules.specs.declared.Asked.{Asked}
+use Rattle.rules.specs.Refusals.{OrRefused, wrong}
+use Rattle.rules.specs.declared.Part.{Part}
 
 -- ---- "descriptors .. put into lists the section has"
 
@@ -102,10 +104,10 @@ pub data Told : Type 0 where
   none : Told
   body : List ℕ → Told
 
-unfoldable pub told : List ℕ → Asked → Told
-told s (Asked.Refused n) = refused n
-told s Asked.Absent = none
-told s (Asked.There start size) = body (take size (drop start s))
+unfoldable pub told : List ℕ → OrRefused (Option Part) → Told
+told s (wrong n) = refused n
+told s (right None) = none
+told s (right (Some p)) = body (take p.size (drop p.start s))
 
 -- growth put no descriptor of the tag into the closing list, and changed none
 abbrev pub Untouched : (tag : ℕ) {ds es : List Descriptor} → GrownClosing ds es → Type 0

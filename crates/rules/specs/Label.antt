@@ -12,7 +12,8 @@ use Rattle.rules.specs.declared.Table.TheVariants.{Ntt}
 use Rattle.rules.specs.declared.Channel.{Channel}
 use Rattle.rules.specs.declared.State.{State}
 use Rattle.rules.specs.declared.Labelled.{Labelled}
-use Rattle.rules.specs.declared.Labelled.TheVariants.{Refused, Named, Fallback}
+use Rattle.rules.specs.declared.Labelled.TheVariants.{Named, Fallback}
+use Rattle.rules.specs.Refusals.{OrRefused, wrong, right}
 
 -- ---- "the first record with its application flag and number"
 
@@ -29,10 +30,10 @@ label_of none = Fallback
 label_of (some x) = Named (x.at + ntt.block.size) (length x.row.what.name)
 
 -- of a channel record; refusal 18: defined, but no channel record
-unfoldable pub channel_label : State → List ℕ → Option (Numbered Channel) → Labelled
-channel_label s store none = Refused 18
+unfoldable pub channel_label : State → List ℕ → Option (Numbered Channel) → OrRefused Labelled
+channel_label s store none = wrong 18
 channel_label s store (some c) =
-    label_of (first (λ x. is_name c.what.application c.what.source x.row) (live_names s store))
+    right (label_of (first (λ x. is_name c.what.application c.what.source x.row) (live_names s store)))
 
 -- ---- "the label question refuses as tuning does by 1, 2 and 14 to 18, with 16 for live names too"
 
@@ -40,11 +41,11 @@ unfoldable pub names_read : State → List ℕ → Bool
 names_read s store = cond (table_live s Ntt) (table_reads s store Ntt) true
 
 -- the refusal, unless the test holds
-unfoldable pub wants : Bool → (n : ℕ) → Labelled → Labelled
+unfoldable pub wants : Bool → (n : ℕ) → OrRefused Labelled → OrRefused Labelled
 wants true n l = l
-wants false n l = Refused n
+wants false n l = wrong n
 
-unfoldable pub labelled : State → List ℕ → (number : ℕ) → Labelled
+unfoldable pub labelled : State → List ℕ → (number : ℕ) → OrRefused Labelled
 labelled s store number =
     wants (leb (store_size (limit_of s)) (length store)) 1
     (wants (well_formed s) 2
@@ -56,7 +57,7 @@ labelled s store number =
 
 -- ---- the label: a part of the store, or the fallback; nothing of it is shown where the question is refused
 
-unfoldable pub label_bytes : (store fallback : List ℕ) → Labelled → List ℕ
-label_bytes store fallback (Refused n) = []
-label_bytes store fallback (Named start size) = take size (drop start store)
-label_bytes store fallback Fallback = fallback
+unfoldable pub label_bytes : (store fallback : List ℕ) → OrRefused Labelled → List ℕ
+label_bytes store fallback (wrong n) = []
+label_bytes store fallback (right (Named start size)) = take size (drop start store)
+label_bytes store fallback (right Fallback) = fallback

@@ -16,6 +16,7 @@ use Rattle.rules.specs.declared.Channel.{Channel}
 use Rattle.rules.specs.declared.Range.{Range}
 use Rattle.rules.specs.declared.State.{State}
 use Rattle.rules.specs.declared.Labelled.{Labelled}
+use Rattle.rules.specs.Refusals.{OrRefused, wrong, right}
 
 -- "the first record with its application flag and number"
 abbrev pub NameIs : (application number : ℕ) → Numbered Name → Type 0
@@ -48,29 +49,29 @@ module _ (s : State) (store : List ℕ) (number : ℕ) where
     pub first : First (ChannelIs number) (plant s store).channels entry
     pub is : c ≡ entry.what
 
-  pub data Labelling : Labelled → Type 0 where
+  pub data Labelling : OrRefused Labelled → Type 0 where
     -- 1: a store shorter than all places
-    short : length store < store_size (limit_of s) → Labelling (Labelled.Refused 1)
+    short : length store < store_size (limit_of s) → Labelling (wrong 1)
     -- 2: "state not well formed"
-    unformed : store_size (limit_of s) ≤ length store → (StateFormed s → ⊥) → Labelling (Labelled.Refused 2)
+    unformed : store_size (limit_of s) ≤ length store → (StateFormed s → ⊥) → Labelling (wrong 2)
     -- 14: "channel number above 4095"
-    high : store_size (limit_of s) ≤ length store → StateFormed s → 4095 < number → Labelling (Labelled.Refused 14)
+    high : store_size (limit_of s) ≤ length store → StateFormed s → 4095 < number → Labelling (wrong 14)
     -- 15: a table that tuning needs isn't live
-    not_live : Askable s store number → (EachLive s → ⊥) → Labelling (Labelled.Refused 15)
+    not_live : Askable s store number → (EachLive s → ⊥) → Labelling (wrong 15)
     -- 16: a place of one of these, or of live names, no longer reads right
-    unread : Askable s store number → EachLive s → (EachReads s store → NamesRead s store → ⊥) → Labelling (Labelled.Refused 16)
+    unread : Askable s store number → EachLive s → (EachReads s store → NamesRead s store → ⊥) → Labelling (wrong 16)
     -- 17: "channel not defined"
     not_defined : Labelable → Nowhere (RangeIs number) (plant s store).ranges
-        ⊎ ((r : Numbered Range) × First (RangeIs number) (plant s store).ranges r × (r.what.defined ≡ 1 → ⊥)) → Labelling (Labelled.Refused 17)
+        ⊎ ((r : Numbered Range) × First (RangeIs number) (plant s store).ranges r × (r.what.defined ≡ 1 → ⊥)) → Labelling (wrong 17)
     -- 18: "defined, but no channel record"
-    no_record : Labelable → Defined (plant s store) number → Nowhere (ChannelIs number) (plant s store).channels → Labelling (Labelled.Refused 18)
+    no_record : Labelable → Defined (plant s store) number → Nowhere (ChannelIs number) (plant s store).channels → Labelling (wrong 18)
     -- "the name bytes of the first record with its application flag and number": they stand four bytes behind where the record begins
     named : {c : Channel} {x : Standing Name} → Recorded c → NamesLive s
         → First (λ y. NameIs c.application c.source y.row) (live_standing s store Ntt) x
-        → Labelling (Labelled.Named (x.at + 4) (length x.row.what.name))
+        → Labelling (right (Labelled.Named (x.at + 4) (length x.row.what.name)))
     -- "if there is none or the table isn't live, the bytes of the fallback label"
     fallback : {c : Channel} → Recorded c
-        → (NamesLive s → Nowhere (λ y. NameIs c.application c.source y.row) (live_standing s store Ntt)) → Labelling Labelled.Fallback
+        → (NamesLive s → Nowhere (λ y. NameIs c.application c.source y.row) (live_standing s store Ntt)) → Labelling (right Labelled.Fallback)
 
   -- a name that is answered: it is that of the first live record with the channel's flag and number, and its bytes stand in the store
   pub record NamedBy (start size : ℕ) : Type 0 where
@@ -89,10 +90,10 @@ pub data LabelTold : Type 0 where
   name : List ℕ → LabelTold
   lent : LabelTold
 
-unfoldable pub told_label : (store : List ℕ) → Labelled → LabelTold
-told_label store (Labelled.Refused n) = refused n
-told_label store (Labelled.Named start size) = name (take size (drop start store))
-told_label store Labelled.Fallback = lent
+unfoldable pub told_label : (store : List ℕ) → OrRefused Labelled → LabelTold
+told_label store (wrong n) = refused n
+told_label store (right (Labelled.Named start size)) = name (take size (drop start store))
+told_label store (right Labelled.Fallback) = lent
 
 -- ---- "15 is unchanged, since tuning needs no names"
 

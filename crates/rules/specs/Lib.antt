@@ -1,5 +1,6 @@
 pub mod Bytes
 pub mod Crc
+pub mod Refusals
 pub mod Descriptors
 pub mod Layout
 pub mod Text

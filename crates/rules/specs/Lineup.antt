@@ -13,6 +13,7 @@ use Rattle.rules.specs.declared.LiveVersion.{LiveVersion}
 use Rattle.rules.specs.declared.State.{State}
 use Rattle.rules.specs.declared.Answer.{Answer}
 use Rattle.rules.specs.declared.Tuned.{Tuned}
+use Rattle.rules.specs.Refusals.{OrRefused, wrong, right}
 
 -- ---- text and decimal numbers, as bytes
 
@@ -61,13 +62,10 @@ fresh_box map =
 -- ---- the lines
 
 -- how many were refused by a number
-unfoldable pub refusals : List Answer → ℕ
+unfoldable pub refusals : List (OrRefused Answer) → ℕ
 refusals [] = 0
-refusals (Answer.Refused n ∷ more) = 1 + refusals more
-refusals (Answer.OtherMap ∷ more) = refusals more
-refusals (Answer.Repeat ∷ more) = refusals more
-refusals (Answer.Stored missing ∷ more) = refusals more
-refusals (Answer.Live v ∷ more) = refusals more
+refusals (wrong n ∷ more) = 1 + refusals more
+refusals (right a ∷ more) = refusals more
 
 -- live version or none
 unfoldable pub version : LiveVersion → List ℕ
@@ -96,21 +94,21 @@ mode_fields m =
     ++ field " symbols=" m.symbols
 
 -- the line of a channel that tunes or is an application; no line where it is refused
-unfoldable pub channel_line : (number : ℕ) → Tuned → List (List ℕ)
-channel_line number (Tuned.Refused n) = []
-channel_line number (Tuned.Digital hidden path khz program mode) =
+unfoldable pub channel_line : (number : ℕ) → OrRefused Tuned → List (List ℕ)
+channel_line number (wrong n) = []
+channel_line number (right (Tuned.Digital hidden path khz program mode)) =
     (front number " kind=digital" hidden path
     ++ field " khz=" khz
     ++ field " program=" program
     ++ mode_fields mode
     ++ text "\n") ∷ []
-channel_line number (Tuned.Analogue hidden path khz standard scrambled) =
+channel_line number (right (Tuned.Analogue hidden path khz standard scrambled)) =
     (front number " kind=analogue" hidden path
     ++ field " khz=" khz
     ++ field " standard=" standard
     ++ field " scrambled=" scrambled
     ++ text "\n") ∷ []
-channel_line number (Tuned.Application hidden path application) =
+channel_line number (right (Tuned.Application hidden path application)) =
     (front number " kind=application" hidden path ++ field " application=" application ++ text "\n") ∷ []
 
 -- the lines of n channels from a number on, ascending

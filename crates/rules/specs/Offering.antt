@@ -3,21 +3,21 @@
 use Rattle.std.specs.Prelude.{ℕ, ◌+◌, ◌<◌, ◌≤◌, ◌≡◌, ◌⊎◌, Bool, true, false, List, [], ◌∷◌, length}
 use Rattle.std.proofs.Math.Option.{some}
 use Rattle.std.specs.Int.Count.{ones}
-use Rattle.rules.specs.Section.{wrong, right}
 use Rattle.rules.specs.Steps.{holds, is_live, is_gathered, holding_formed, has_other_last, is_repeat, held_with}
 use Rattle.rules.specs.Gathering.{Collector, BoxOf, store_size, gathered_at, put, touches, box_after}
 use Rattle.rules.specs.declared.Holding.{Holding}
 use Rattle.rules.specs.declared.Revision.{Revision}
 use Rattle.rules.specs.declared.Answer.{Answer}
-use Rattle.rules.specs.declared.Answer.TheVariants.{Refused, OtherMap, Repeat, Stored, Live}
+use Rattle.rules.specs.declared.Answer.TheVariants.{OtherMap, Repeat, Stored, Live}
+use Rattle.rules.specs.Refusals.{OrRefused, wrong, right}
 
 -- the answer of step 6 where a version goes live
-abbrev pub is_going_live : Answer → Bool
-is_going_live (Refused n) = false
-is_going_live OtherMap = false
-is_going_live Repeat = false
-is_going_live (Stored missing) = false
-is_going_live (Live v) = true
+abbrev pub is_going_live : OrRefused Answer → Bool
+is_going_live (wrong n) = false
+is_going_live (right OtherMap) = false
+is_going_live (right Repeat) = false
+is_going_live (right (Stored missing)) = false
+is_going_live (right (Live v)) = true
 
 -- ---- one table: what is held of it, and a section
 
@@ -138,30 +138,30 @@ module _ {T S C : Type 0} (co : Collector T S C) where
 
   -- ---- "For a section (v, n, last) that reads right, in this order" steps 1 to 6, behind refusals 1 to 11; 2 and step 1 by the collector's own words
 
-  pub data Offering (b : BoxOf S) (section : List ℕ) : Answer → Type 0 where
+  pub data Offering (b : BoxOf S) (section : List ℕ) : OrRefused Answer → Type 0 where
     -- 1: a store shorter than all places
-    short : length b.store < store_size co (limit_of b.state) → Offering b section (Refused 1)
+    short : length b.store < store_size co (limit_of b.state) → Offering b section (wrong 1)
     -- 2: "state not well formed", by the collector's own words
-    unformed : store_size co (limit_of b.state) ≤ length b.store → (WellFormed b.state → ⊥) → Offering b section (Refused 2)
+    unformed : store_size co (limit_of b.state) ≤ length b.store → (WellFormed b.state → ⊥) → Offering b section (wrong 2)
     -- 3 to 11: the section does not read right
-    unread : {n : ℕ} → Checked b → read_for b.state section ≡ wrong n → Offering b section (Refused n)
+    unread : {n : ℕ} → Checked b → read_for b.state section ≡ wrong n → Offering b section (wrong n)
     -- step 1: set aside by a word
-    set_aside : {c : C} → Checked b → read_for b.state section ≡ right c → Aside b.state c → Offering b section (word b.state c)
+    set_aside : {c : C} → Checked b → read_for b.state section ≡ right c → Aside b.state c → Offering b section (right (word b.state c))
     -- step 2: last not below the limit: refusal 12
-    high_last : {c : C} → Passed b.state b.store section c → limit_of b.state ≤ (revision_of c).last → Offering b section (Refused 12)
+    high_last : {c : C} → Passed b.state b.store section c → limit_of b.state ≤ (revision_of c).last → Offering b section (wrong 12)
     -- step 3: refusal 13
     other_last : {c : C} → Passed b.state b.store section c → (revision_of c).last < limit_of b.state
-        → OtherLast (holding_of b.state (table_of c)) (revision_of c) → Offering b section (Refused 13)
+        → OtherLast (holding_of b.state (table_of c)) (revision_of c) → Offering b section (wrong 13)
     -- step 4: *repeat*
     repeated : {c : C} → Passed b.state b.store section c → (revision_of c).last < limit_of b.state
         → (OtherLast (holding_of b.state (table_of c)) (revision_of c) → ⊥) → Repeated (holding_of b.state (table_of c)) (revision_of c)
-        → Offering b section Repeat
+        → Offering b section (right Repeat)
     -- step 6: "If all of 0 to last are held"
     live : {c : C} → New b section c → ((k : ℕ) → k ≤ (revision_of c).last → NowHas (holding_of b.state (table_of c)) (revision_of c) k)
-        → Offering b section (Live (revision_of c).version)
+        → Offering b section (right (Live (revision_of c).version))
     -- "Else stored, with how many sections are still missing": of 0 to last one is not held, and the number named is last + 1 less those held
     stored : {c : C} {missing k : ℕ} → New b section c → k ≤ (revision_of c).last → (NowHas (holding_of b.state (table_of c)) (revision_of c) k → ⊥)
-        → missing + ones (held_with (holding_of b.state (table_of c)) (revision_of c)) ≡ (revision_of c).last + 1 → Offering b section (Stored missing)
+        → missing + ones (held_with (holding_of b.state (table_of c)) (revision_of c)) ≡ (revision_of c).last + 1 → Offering b section (right (Stored missing))
 
   -- ---- the promise: "Sections 0 to last of one version, all reading right with that last and for our map, each offered in any order with no other
   -- version of that table between them, leave it live by the last of them, if state and store pass checks 1 and 2, last is at most 3 and neither

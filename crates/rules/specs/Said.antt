@@ -2,6 +2,7 @@
 -- each of the enum's cases, and the promises use that definition." The enums that an entry point answers, in the paper's terms.
 use Rattle.std.specs.Prelude.{ℕ, ◌≤◌, ◌⊎◌, List, [], ◌∷◌, ◌++◌}
 use Prim.Native.String.{String}
+use Rattle.std.specs.Prelude.{Option, Some, None}
 use Rattle.rules.specs.Section.{read_section, read_as, ask}
 use Rattle.rules.specs.Holding.{index_of, offered}
 use Rattle.rules.specs.Tuning.{tune}
@@ -9,11 +10,11 @@ use Rattle.rules.specs.Label.{labelled}
 use Rattle.rules.specs.declared.Mode.{Mode}
 use Rattle.rules.specs.declared.SectionHead.{SectionHead}
 use Rattle.rules.specs.declared.State.{State}
-use Rattle.rules.specs.declared.Read.{Read}
-use Rattle.rules.specs.declared.Asked.{Asked}
+use Rattle.rules.specs.declared.Part.{Part}
 use Rattle.rules.specs.declared.Answer.{Answer}
 use Rattle.rules.specs.declared.Tuned.{Tuned}
 use Rattle.rules.specs.declared.Labelled.{Labelled}
+use Rattle.rules.specs.Refusals.{OrRefused, wrong, right}
 
 -- the number of the refusal, or 0 where there is none; the paper's word; and the values that go with it
 pub record Said : Type 0 where
@@ -43,25 +44,25 @@ head_values h =
     ∷ h.closing
     ∷ []
 
-unfoldable pub read_said : Read → Said
-read_said (Read.Refused n) = refused_by n
-read_said (Read.Right h) = says "reads right" (head_values h)
+unfoldable pub read_said : OrRefused SectionHead → Said
+read_said (wrong n) = refused_by n
+read_said (right h) = says "reads right" (head_values h)
 
 -- ---- the question for a descriptor: there is none, or its body is a part of the section, which begins there and has so many bytes
 
-unfoldable pub asked_said : Asked → Said
-asked_said (Asked.Refused n) = refused_by n
-asked_said Asked.Absent = says "none" []
-asked_said (Asked.There start size) = says "part" (start ∷ size ∷ [])
+unfoldable pub asked_said : OrRefused (Option Part) → Said
+asked_said (wrong n) = refused_by n
+asked_said (right None) = says "none" []
+asked_said (right (Some p)) = says "part" (p.start ∷ p.size ∷ [])
 
 -- ---- an offer: "other map", "repeat", "stored, with how many sections are still missing", "live, with v"
 
-unfoldable pub answer_said : Answer → Said
-answer_said (Answer.Refused n) = refused_by n
-answer_said Answer.OtherMap = says "other map" []
-answer_said Answer.Repeat = says "repeat" []
-answer_said (Answer.Stored missing) = says "stored" (missing ∷ [])
-answer_said (Answer.Live v) = says "live" (v ∷ [])
+unfoldable pub answer_said : OrRefused Answer → Said
+answer_said (wrong n) = refused_by n
+answer_said (right Answer.OtherMap) = says "other map" []
+answer_said (right Answer.Repeat) = says "repeat" []
+answer_said (right (Answer.Stored missing)) = says "stored" (missing ∷ [])
+answer_said (right (Answer.Live v)) = says "live" (v ∷ [])
 
 -- ---- a channel number: "digital (frequency, programme, mode record) or analogue (frequency, standard, scrambled), with path and hidden"; an
 -- application channel "its application number, path and hidden flag"
@@ -69,20 +70,20 @@ answer_said (Answer.Live v) = says "live" (v ∷ [])
 unfoldable pub mode_values : Mode → List ℕ
 mode_values m = m.system ∷ m.inner ∷ m.split ∷ m.format ∷ m.symbols ∷ []
 
-unfoldable pub tuned_said : Tuned → Said
-tuned_said (Tuned.Refused n) = refused_by n
-tuned_said (Tuned.Digital hidden path khz program mode) =
+unfoldable pub tuned_said : OrRefused Tuned → Said
+tuned_said (wrong n) = refused_by n
+tuned_said (right (Tuned.Digital hidden path khz program mode)) =
     says "digital" (khz ∷ program ∷ mode_values mode ++ (path ∷ hidden ∷ []))
-tuned_said (Tuned.Analogue hidden path khz standard scrambled) =
+tuned_said (right (Tuned.Analogue hidden path khz standard scrambled)) =
     says "analogue" (khz ∷ standard ∷ scrambled ∷ path ∷ hidden ∷ [])
-tuned_said (Tuned.Application hidden path number) = says "application" (number ∷ path ∷ hidden ∷ [])
+tuned_said (right (Tuned.Application hidden path number)) = says "application" (number ∷ path ∷ hidden ∷ [])
 
 -- ---- request 2026-01, a label: "the name bytes", a part of the store, which begins there and has so many bytes, or "the fallback label"
 
-unfoldable pub label_said : Labelled → Said
-label_said (Labelled.Refused n) = refused_by n
-label_said (Labelled.Named start size) = says "name" (start ∷ size ∷ [])
-label_said Labelled.Fallback = says "fallback" []
+unfoldable pub label_said : OrRefused Labelled → Said
+label_said (wrong n) = refused_by n
+label_said (right (Labelled.Named start size)) = says "name" (start ∷ size ∷ [])
+label_said (right Labelled.Fallback) = says "fallback" []
 
 -- ---- what document 01 answers, in these terms: to a section, to the question for a descriptor, to an offer, to a channel number
 

@@ -23,6 +23,7 @@ use Rattle.rules.specs.declared.Range.{Range}
 use Rattle.rules.specs.declared.Answer.TheVariants.{Live}
 use Rattle.rules.specs.declared.Tuned.{Tuned}
 use Rattle.rules.specs.declared.Labelled.TheVariants as Labelled
+use Rattle.rules.specs.Refusals.{OrRefused, wrong}
 
 -- ---- a live section was sent
 
@@ -50,7 +51,7 @@ module _ {T S C : Type 0} (co : Collector T S C) where
     pub goes_on : Throughout (λ x. GatheredIs (held_of x.state t) version) (run co b before) meanwhile
     pub completing_number : ℕ
     pub completing_is : Wanted co b.state t version last completing_number completing
-    pub completes : answer_to co (run co b (before ++ meanwhile)) completing ≡ Live version
+    pub completes : answer_to co (run co b (before ++ meanwhile)) completing ≡ right (Live version)
     pub stays : Throughout (λ x. (held_of x.state t).live ≡ record { present = 1; version = version; last = last })
         (run co b (before ++ meanwhile)) (completing ∷ behind)
     pub first : First (Wanted co b.state t version last n) (meanwhile ++ (completing ∷ [])) section
@@ -100,15 +101,15 @@ module _ (b : Box) (sections : List (List ℕ)) where
     pub is : m ≡ entry.what
 
   -- what a channel number is tuned to
-  pub data Screen (number : ℕ) : Tuned → Type 0 where
-    refused : {n : ℕ} → Screen number (Tuned.Refused n)
-    application : {c : Channel} → ChannelSent number c → c.application ≡ 1 → Screen number (Tuned.Application (hidden c) c.path c.source)
+  pub data Screen (number : ℕ) : OrRefused Tuned → Type 0 where
+    refused : {n : ℕ} → Screen number (wrong n)
+    application : {c : Channel} → ChannelSent number c → c.application ≡ 1 → Screen number (right (Tuned.Application (hidden c) c.path c.source))
     analogue : {c : Channel} {khz scrambled standard : ℕ} → ChannelSent number c → (c.application ≡ 1 → ⊥)
         → c.signal ≡ Signal.Analogue scrambled standard → FrequencySent c khz
-        → Screen number (Tuned.Analogue (hidden c) c.path khz standard scrambled)
+        → Screen number (right (Tuned.Analogue (hidden c) c.path khz standard scrambled))
     digital : {c : Channel} {khz program reference : ℕ} {m : Mode} → ChannelSent number c → (c.application ≡ 1 → ⊥)
         → c.signal ≡ Signal.Digital program reference → FrequencySent c khz → ModeSent reference m
-        → Screen number (Tuned.Digital (hidden c) c.path khz program m)
+        → Screen number (right (Tuned.Digital (hidden c) c.path khz program m))
 
   -- the bytes of a name that labels a channel: its channel record was sent, and so was the first name record with its flag and number
   pub record LabelSent (number : ℕ) (bytes : List ℕ) : Type 0 where
@@ -133,7 +134,7 @@ pub record RunToScreen (b : Box) (sections : List (List ℕ)) : Type 0 where
   pub live : (t : Table) → (holding_of (run box b sections).state t).live.present ≡ 1 → (n : ℕ) → n ≤ (holding_of (run box b sections).state t).live.last
       → SentAs box b sections t n (section_at (run box b sections).store (live_at (run box b sections).state t n))
   pub tuned : (number : ℕ) → Screen b sections number (tune (run box b sections).state (run box b sections).store number)
-  pub labelled : (number start size : ℕ) → labelled (run box b sections).state (run box b sections).store number ≡ Labelled.Named start size
+  pub labelled : (number start size : ℕ) → labelled (run box b sections).state (run box b sections).store number ≡ right (Labelled.Named start size)
       → LabelSent b sections number (take size (drop start (run box b sections).store))
   pub printed : (above below : List (List ℕ)) (line : List ℕ) → lines_of (run box b sections) ≡ above ++ (line ∷ below) → LineSent b sections line
 

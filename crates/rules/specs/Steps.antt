@@ -1,15 +1,17 @@
 -- Document 01, "Holding and going live": what is held of one table, when it is well formed, and what a section does to it. How many sections
 -- a table may have is an argument, `limit`.
-use Rattle.std.specs.Prelude.{ℕ, ◌+◌, ◌-◌, ◌/◌, ◌%◌, ◌^◌, Bool, true, false, cond, not, ◌&&◌, ◌||◌, leb, ltb, eqb}
+use Rattle.std.specs.Prelude.{ℕ, ◌+◌, ◌-◌, ◌/◌, ◌%◌, ◌^◌, Bool, true, false, cond, not, ◌&&◌, ◌||◌, leb, ltb, eqb, Result, Ok, Err}
 use Rattle.std.specs.Int.Bits.{bit_or}
 use Rattle.std.specs.Int.Count.{ones}
 use Rattle.rules.specs.declared.LiveVersion.{LiveVersion}
 use Rattle.rules.specs.declared.GatheredVersion.{GatheredVersion}
 use Rattle.rules.specs.declared.Holding.{Holding}
 use Rattle.rules.specs.declared.Revision.{Revision}
-use Rattle.rules.specs.declared.Stepped.{Stepped}
 use Rattle.rules.specs.declared.Answer.{Answer}
-use Rattle.rules.specs.declared.Answer.TheVariants.{Refused, OtherMap, Repeat, Stored, Live}
+use Rattle.rules.specs.declared.Answer.TheVariants.{OtherMap, Repeat, Stored, Live}
+use Rattle.rules.specs.Refusals.{OrRefused, wrong, right, number}
+use Rattle.rules.specs.declared.Refusal.{Refusal}
+use Rattle.rules.specs.declared.Stepped as code
 
 unfoldable pub none_live : LiveVersion
 none_live = record { present = 0; version = 0; last = 0 }
@@ -101,25 +103,35 @@ gathering h r held =
       half = h.half;
     }
 
+-- the answer, with what is then held
+pub record Stepped : Type 0 where
+  pub answer : OrRefused Answer
+  pub holding : Holding
+
+-- what the code answers to a section, so told: a refusal leaves what is held
+abbrev pub stepped : Holding → Result code.Stepped Refusal → Stepped
+stepped h (Ok s) = record { answer = right s.answer; holding = s.holding }
+stepped h (Err r) = record { answer = wrong (number r); holding = h }
+
 -- step 6: if all of 0 to last are held: live, with v; else stored, with how many sections are still missing
 unfoldable pub live_or_stored : Holding → Revision → (held : ℕ) → Stepped
 live_or_stored h r held =
     cond (eqb held (all_of r.last))
-    (record { answer = Live r.version; holding = gone_live h r })
-    (record { answer = Stored (r.last + 1 - ones held); holding = gathering h r held })
+    (record { answer = right (Live r.version); holding = gone_live h r })
+    (record { answer = right (Stored (r.last + 1 - ones held)); holding = gathering h r held })
 
 -- step 2: last above 3: refusal 12; step 3: refusal 13; step 4: repeat; steps 5 and 6
 unfoldable pub step_of : (limit : ℕ) → Holding → Revision → Stepped
 step_of limit h r =
-    cond (leb limit r.last) (record { answer = Refused 12; holding = h })
-    (cond (has_other_last h r) (record { answer = Refused 13; holding = h })
-    (cond (is_repeat h r) (record { answer = Repeat; holding = h })
+    cond (leb limit r.last) (record { answer = wrong 12; holding = h })
+    (cond (has_other_last h r) (record { answer = wrong 13; holding = h })
+    (cond (is_repeat h r) (record { answer = right Repeat; holding = h })
     (live_or_stored h r (held_with h r))))
 
 -- the answers of steps 5 and 6; "refusals, other map and repeat leave state and store untouched"
-abbrev pub takes_in : Answer → Bool
-takes_in (Refused n) = false
-takes_in OtherMap = false
-takes_in Repeat = false
-takes_in (Stored missing) = true
-takes_in (Live v) = true
+abbrev pub takes_in : OrRefused Answer → Bool
+takes_in (wrong n) = false
+takes_in (right OtherMap) = false
+takes_in (right Repeat) = false
+takes_in (right (Stored missing)) = true
+takes_in (right (Live v)) = true

@@ -17,6 +17,7 @@ use Rattle.rules.specs.declared.Range.{Range}
 use Rattle.rules.specs.declared.Revision.{Revision}
 use Rattle.rules.specs.declared.State.{State}
 use Rattle.rules.specs.declared.Tuned.{Tuned}
+use Rattle.rules.specs.Refusals.{OrRefused}
 
 -- ---- refusals 15 and 16: the live places
 
@@ -132,13 +133,13 @@ defined rs number = defined_by (first (is_range number) rs)
 -- ---- refusals 17 to 21, in their order
 
 -- the refusal, unless the test holds
-unfoldable pub needs : Bool → (n : ℕ) → Tuned → Tuned
+unfoldable pub needs : Bool → (n : ℕ) → OrRefused Tuned → OrRefused Tuned
 needs true n t = t
-needs false n t = Tuned.Refused n
+needs false n t = wrong n
 
 -- the refusal, where nothing was found
-unfoldable pub found : {R : Type 0} → Option R → (n : ℕ) → (R → Tuned) → Tuned
-found none n f = Tuned.Refused n
+unfoldable pub found : {R : Type 0} → Option R → (n : ℕ) → (R → OrRefused Tuned) → OrRefused Tuned
+found none n f = wrong n
 found (some r) n f = f r
 
 -- hidden is type 1
@@ -147,35 +148,35 @@ hidden c = cond (eqb c.kind 1) 1 0
 
 -- "digital (frequency, programme, mode record) or analogue (frequency, standard, scrambled), with path and hidden";
 -- refusal 21: digital, and mode reference 0 or without a record
-unfoldable pub tune_signal : Plant → Channel → (khz : ℕ) → Signal → Tuned
-tune_signal p c khz (Signal.Analogue scrambled standard) = Tuned.Analogue (hidden c) c.path khz standard scrambled
+unfoldable pub tune_signal : Plant → Channel → (khz : ℕ) → Signal → OrRefused Tuned
+tune_signal p c khz (Signal.Analogue scrambled standard) = right (Tuned.Analogue (hidden c) c.path khz standard scrambled)
 tune_signal p c khz (Signal.Digital program mode) =
     needs (ltb 0 mode) 21
     (found (first (is_mode mode) p.modes) 21 (λ m.
-    Tuned.Digital (hidden c) c.path khz program m.what))
+    right (Tuned.Digital (hidden c) c.path khz program m.what)))
 
 -- what the tuner reaches: 54,000 to 1,002,000 kHz
 unfoldable pub in_reach : (khz : ℕ) → Bool
 in_reach khz = leb 54000 khz && leb khz 1002000
 
 -- refusal 20: frequency below 54,000 or above 1,002,000 kHz
-unfoldable pub tune_khz : Plant → Channel → (khz : ℕ) → Tuned
+unfoldable pub tune_khz : Plant → Channel → (khz : ℕ) → OrRefused Tuned
 tune_khz p c khz = needs (in_reach khz) 20 (tune_signal p c khz c.signal)
 
 -- refusal 19: carrier reference 0 or without a carrier
-unfoldable pub tune_carrier : Plant → Channel → Tuned
+unfoldable pub tune_carrier : Plant → Channel → OrRefused Tuned
 tune_carrier p c =
     needs (ltb 0 c.carrier) 19
     (found (first (is_carrier c.carrier) p.carriers) 19 (λ e.
     tune_khz p c (carrier_khz e.what (c.carrier - e.index))))
 
 -- "An application channel answers its application number, path and hidden flag and needs no carrier."
-unfoldable pub tune_channel : Plant → Channel → Tuned
+unfoldable pub tune_channel : Plant → Channel → OrRefused Tuned
 tune_channel p c =
-    cond (eqb c.application 1) (Tuned.Application (hidden c) c.path c.source) (tune_carrier p c)
+    cond (eqb c.application 1) (right (Tuned.Application (hidden c) c.path c.source)) (tune_carrier p c)
 
 -- refusal 17: channel not defined; refusal 18: defined, but no channel record
-unfoldable pub look_up : Plant → (number : ℕ) → Tuned
+unfoldable pub look_up : Plant → (number : ℕ) → OrRefused Tuned
 look_up p number =
     needs (defined p.ranges number) 17
     (found (first (is_channel number) p.channels) 18 (λ c.
@@ -183,7 +184,7 @@ look_up p number =
 
 -- ---- "For tuning: 1, 2, 14, 15, 16, then 17 to 21."
 
-unfoldable pub tune : State → List ℕ → (number : ℕ) → Tuned
+unfoldable pub tune : State → List ℕ → (number : ℕ) → OrRefused Tuned
 tune s store number =
     needs (leb (store_size (limit_of s)) (length store)) 1
     (needs (well_formed s) 2

@@ -1,9 +1,12 @@
 // The shared types: what the records of the tables say, what the state holds, what the box answers.
-// They hold what document 01 names, and no function stands here: the meaning is specs/.
+// They hold what document 01 names, and of functions only the number of a refusal stands here: the meaning is specs/.
 #![tactic(auto)]
 
+ghost use Rattle.std.specs.Prelude.{◌≡◌};
+ghost use Rattle.rules.specs.Refusals.{number};
+
 // The tables, in the order of their places in the store.
-#[derive(Clone, Copy)]
+#[derive(Clone, Copy, PartialEq, Eq)]
 pub enum Table {
     Cds,
     Mms,
@@ -81,8 +84,8 @@ pub struct DcmHead {
     pub count: u8,
 }
 
-// The three language bytes of a names section. (An array would do, if an enum could hold one: a section's head stands in one.)
-#[derive(Clone, Copy)]
+// The three language bytes of a names section. (By their names, as the rules speak of them.)
+#[derive(Clone, Copy, Default)]
 pub struct Language {
     pub first: u8,
     pub second: u8,
@@ -108,33 +111,26 @@ pub struct SectionHead {
     pub closing: usize,
 }
 
-// What the reader answers to a section.
+// A part of what was lent: it begins at `start` and has `size` bytes.
 #[derive(Clone, Copy)]
-pub enum Read {
-    Refused(u8),
-    Right(SectionHead),
-}
-
-// What the question for a descriptor of the closing list answers: the body begins at `start` and has `size` bytes.
-#[derive(Clone, Copy)]
-pub enum Asked {
-    Refused(u8),
-    Absent,
-    There { start: usize, size: usize },
+pub struct Part {
+    pub start: usize,
+    pub size: usize,
 }
 
 // ---- what the state holds
 
-// A table's live version, or none: `present` is 1 or 0.
-#[derive(Clone, Copy)]
+// A table's live version, or none: `present` is 1, or 0 and so are all its fields. (A number and no `Option`: refusal 2
+// judges a state in which it is neither 1 nor 0, or 0 beside fields that are not.)
+#[derive(Clone, Copy, PartialEq, Eq, Default)]
 pub struct LiveVersion {
     pub present: u8,
     pub version: u8,
     pub last: u8,
 }
 
-// The version being gathered, or none. The ones of `held` are the numbers held: bit n is section n.
-#[derive(Clone, Copy)]
+// The version being gathered, or none, `present` as above. The ones of `held` are the numbers held: bit n is section n.
+#[derive(Clone, Copy, PartialEq, Eq, Default)]
 pub struct GatheredVersion {
     pub present: u8,
     pub version: u8,
@@ -176,17 +172,50 @@ pub struct State {
 
 // ---- what the box answers
 
-// To an offered section. `Stored` says how many sections are still missing, `Live` the version.
+// Why it refuses, by the numbers of document 01: the first is 1.
+#[derive(Clone, Copy, Debug, PartialEq, Eq)]
+pub enum Refusal {
+    ShortStore = 1,
+    BadState,
+    BadSize,
+    NoTableNumber,
+    BadCrc,
+    OtherProtocol,
+    NoTable,
+    CutShort,
+    ZeroBits,
+    OutOfLimits,
+    BadRevision,
+    TooManySections,
+    OtherLast,
+    NoChannelNumber,
+    NotLive,
+    Unreadable,
+    NotDefined,
+    NoRecord,
+    NoCarrier,
+    OutOfReach,
+    NoMode,
+}
+
+impl Refusal {
+    pub fn number(self) -> u8
+        ensures { result ≡ number self }
+    {
+        self as u8
+    }
+}
+
+// To an offered section, where it is not refused. `Stored` says how many sections are still missing, `Live` the version.
 #[derive(Clone, Copy)]
 pub enum Answer {
-    Refused(u8),
     OtherMap,
     Repeat,
     Stored(u8),
     Live(u8),
 }
 
-// The answer, with what is then held of the section's table.
+// The answer, with what is then held of the section's table: a refusal has none, since it changes nothing.
 #[derive(Clone, Copy)]
 pub struct Stepped {
     pub answer: Answer,
@@ -200,10 +229,9 @@ pub struct Offered {
     pub state: State,
 }
 
-// To a channel number.
+// To a channel number, where it is not refused.
 #[derive(Clone, Copy)]
 pub enum Tuned {
-    Refused(u8),
     Digital {
         hidden: u8,
         path: u8,
@@ -225,10 +253,10 @@ pub enum Tuned {
     },
 }
 
-// To the question for a channel's label: the name is the `size` bytes at `start` of the store, or the label is the lent fallback.
+// To the question for a channel's label, where it is not refused: the name is the `size` bytes at `start` of the store, or the label is
+// the lent fallback. (No `Option<Part>`: `None` would say that there is no label.)
 #[derive(Clone, Copy)]
 pub enum Labelled {
-    Refused(u8),
     Named { start: usize, size: usize },
     Fallback,
 }

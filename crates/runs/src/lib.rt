@@ -46,7 +46,8 @@ fn line_up(
     printout::print(tally, store, heading, lines)
 }
 
-// The labels of a whole input, in two buffers.
+// The labels of a whole input, in two buffers. (No one function with the line-up: the rule and the length of the lines are each one's own, and what
+// is left are two calls.)
 fn labels_of(
     input: &[u8],
     store: &mut [u8],

@@ -4,7 +4,7 @@ use native.Mathlib.Omega.{arith}
 use mathlib.Core.Path.{◌≡◌, refl, sym, ap, subst, ◌∙◌}
 use mathlib.Core.Bool.{Bool, true, false, cond}
 use mathlib.Core.List.{List, [], ◌∷◌, ◌++◌}
-use mathlib.Core.Option.{Option, none, some}
+use Rattle.std.proofs.Math.Option.{Option, none, some}
 use lib.ListN.{length, take}
 use Rattle.rules.specs.{Bytes.got, Bytes.from, Section.without_crc, Holding.section_at, Holding.live_at, Search.first, Search.sections}
 use Rattle.rules.specs.{Tuning.live_count, Tuning.live_section, Tuning.live_records, declared.Table.Table, declared.State.State}
@@ -36,6 +36,15 @@ pub an-entry : (t : Table) (store : List ℕ) (entry : ℕ) → (entry ≡ 0 →
 unfolding record_named
 an-entry t store zero h = absurd (h refl)
 an-entry t store (suc n) h = let e : suc n - 1 ≡ n = omega arith in rw e
+
+pub a-label : (store : List ℕ) (entry : ℕ) → (entry ≡ 0 → ⊥)
+    → label_named store entry ≡ Named ((entry - 1) % 2 ^ 32 + 4) (byte ((entry - 1) % 2 ^ 32 + 3) store)
+unfolding label_named
+a-label store zero h = absurd (h refl)
+a-label store (suc n) h = let e : suc n - 1 ≡ n = omega arith in rw e
+
+-- of an entry that is none, and of another
+pub ruleset by_entry = (no-entry, an-entry, a-label)
 
 module _ (t : Table) (store : List ℕ) where
   abbrev Names : (at index : ℕ) → Numbered (RecordOf t) → Type 0
@@ -148,12 +157,6 @@ module _ (s : State) (store : List ℕ) (t : Table) (live : Live s store t) wher
 no_label : (store : List ℕ) (o : Option (Standing Name)) → o ≡ none → label_named store (entry_number o) ≡ label_of o
 unfolding label_named entry_number label_of
 no_label store o e = rw e refl
-
-pub a-label : (store : List ℕ) (entry : ℕ) → (entry ≡ 0 → ⊥)
-    → label_named store entry ≡ Named ((entry - 1) % 2 ^ 32 + 4) (byte ((entry - 1) % 2 ^ 32 + 3) store)
-unfolding label_named
-a-label store zero h = absurd (h refl)
-a-label store (suc n) h = let e : suc n - 1 ≡ n = omega arith in rw e
 
 module _ (s : State) (store : List ℕ) (live : Live s store Ntt) (test : Numbered Name → Bool) where
   low-name : (y : Standing Name) → first (λ z. test z.row) (live_standing s store Ntt) ≡ some y → y.at < 2 ^ 32

@@ -1,16 +1,17 @@
 -- The first record of a live table that goes by a number, and its entry: a number that says where in the store the record stands, and with
 -- which index.
-use Rattle.std.specs.Prelude.{ℕ, zero, suc, ◌+◌, ◌*◌, ◌/◌, ◌%◌, ◌^◌, take}
-use mathlib.Core.{Path.◌≡◌, Bool.Bool, Bool.true, Bool.false, List.List, Option.Option, Option.none, Option.some}
-use Rattle.rules.specs.Bytes.{from}
-use Rattle.rules.specs.Layout.{extent, Numbered}
+use Rattle.std.specs.Prelude.{ℕ, zero, suc, ◌+◌, ◌*◌, ◌/◌, ◌%◌, ◌^◌, ◌≡◌, Bool, true, false, List, take}
+use Rattle.std.proofs.Math.Option.{Option, none, some}
+use Rattle.rules.specs.{Bytes.Got, Bytes.from, Descriptors.counted}
+use Rattle.rules.specs.Layout.{extent, Layout, Numbered}
 use Rattle.rules.specs.Tables.{carriers_of, cds, channel_of, vcm, range_of, dcm}
-use Rattle.rules.specs.{Form.form, Section.Structure, Search.first, Standing.Standing, Standing.live_standing, declared.Table.Table, declared.State.State}
+use Rattle.rules.specs.{Form.form, Section.Structure, Search.first, Standing.Standing, Standing.live_standing}
+use Rattle.rules.specs.{declared.Table.Table, declared.State.State}
 use Rattle.rules.specs.Holding.{limit_of, holding_of, holding_formed}
 use Rattle.rules.specs.Tuning.{table_reads, is_carrier, is_mode, is_channel, is_range}
 use Rattle.rules.specs.declared.Table.TheVariants.{Cds, Mms, Vcm, Dcm, Ntt}
-use Rattle.fields.specs.{Outline.layout_of, declared.Outline.Outline, declared.Outlined.Outlined}
-use Rattle.fields.specs.declared.Outlined.TheVariants.{Refused, Records}
+use Rattle.rules.specs.Refusals.{OrRefused, wrong, right}
+use Rattle.fields.specs.{Outline.layout_of, declared.Outline.Outline}
 use Rattle.search.specs.declared.Span.{Span}
 
 -- what a search may rely on: checks 2 and 16 of the table
@@ -48,10 +49,20 @@ span_of Ntt index bs = record { first = 0; count = 0; takes = 0 }
 
 -- ---- where the records of a live section are
 
+-- what is left behind the record at a place and its descriptors
+abbrev pub descriptors : (t : Table) (included : ℕ) (b : List ℕ) (at : ℕ) → Got (Unit {0})
+descriptors t included b at = counted (layout_of t included).described (from b (at + extent (layout_of t included).block (from b at)))
+
 -- a section that reads right has no refusal there
-unfoldable pub outline_in : Outlined → Outline
-outline_in (Refused n) = record { at = 0; map = 0; first = 0; count = 0; included = 0 }
-outline_in (Records o) = o
+unfoldable pub outline_in : OrRefused Outline → Outline
+outline_in (wrong n) = record { at = 0; map = 0; first = 0; count = 0; included = 0 }
+outline_in (right o) = o
+
+-- what a search asks of a record's bytes is the same of two layouts: how many they are, whether descriptors follow, how many indices it takes
+pub record Alike {Q R : Type 0} (l : Layout Q) (m : Layout R) : Type 0 where
+  pub size : (bs : List ℕ) → extent l.block bs ≡ extent m.block bs
+  pub described : l.described ≡ m.described
+  pub takes : (bs : List ℕ) → l.takes (l.block.look bs) ≡ m.takes (m.block.look bs)
 
 -- ---- entries
 

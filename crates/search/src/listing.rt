@@ -2,27 +2,21 @@
 // for each number.
 ghost use Rattle.std.specs.Prelude.{◌≡◌, ◌+◌, ◌-◌, ◌≤◌, ◌<◌, length};
 ghost use Rattle.rules.specs.Bytes.{from};
-ghost use Rattle.rules.specs.Descriptors.{counted};
 ghost use Rattle.rules.specs.Layout.{extent};
 ghost use Rattle.fields.specs.Place.{Stands};
-ghost use Rattle.fields.specs.Outline as rule;
-ghost use Rattle.search.specs.Entries.{Live, outline_in};
+ghost use Rattle.fields.specs.Outline.{layout_of};
+ghost use Rattle.search.specs.Entries.{Live, descriptors};
 ghost use Rattle.search.specs.Listing.{Lists, Blank, Marked, Entered};
 
-use fields::{Outline, Skip};
-use rules::{State, Table};
+use rules::{Refusal, State, Table};
 
 // A number gets an entry, unless it has one: the first record that goes by a number is its record.
 fn mark_one(entries: &mut [u64], number: usize, entry: u64)
     ensures { Marked number 1 entry entries.old entries.new }
 {
-    if entries.len() <= number {
-        return;
+    if number < entries.len() && entries[number] == 0 {
+        entries[number] = entry;
     }
-    if entries[number] != 0 {
-        return;
-    }
-    entries[number] = entry;
 }
 
 // So many numbers get an entry, unless they have one.
@@ -46,23 +40,10 @@ fn list_one(entries: &mut [u64], t: Table, b: &[u8], at: usize, index: u32, plac
     span.takes
 }
 
-// Where the records of a live section stand.
-fn outline_of(t: Table, b: &[u8]) -> Outline
-    ensures { result ≡ outline_in (rule.outline_of t b.now) }
-{
-    match t {
-        Table::Cds => crate::outline_in(cds::outline(b)),
-        Table::Mms => crate::outline_in(mms::outline(b)),
-        Table::Vcm => crate::outline_in(vcm::outline(b)),
-        Table::Dcm => crate::outline_in(dcm::outline(b)),
-        Table::Ntt => crate::outline_in(ntt::outline(b)),
-    }
-}
-
 // Over the record at a place, which is there whole, and its descriptors.
-fn past_record(t: Table, b: &[u8], at: usize, included: u8) -> Skip
-    requires { extent (rule.layout_of t included).block (from b.now at) ≤ length b.now - at }
-    ensures { Stands b.now result (counted (rule.layout_of t included).described (from b.now (at + extent (rule.layout_of t included).block (from b.now at)))) }
+fn past_record(t: Table, b: &[u8], at: usize, included: u8) -> Result<usize, Refusal>
+    requires { extent (layout_of t included).block (from b.now at) ≤ length b.now - at }
+    ensures { Stands b.now result (descriptors t included b.now at) }
 {
     match t {
         Table::Cds => fields::past_counted(b, at + cds::SIZE, true),
@@ -81,15 +62,14 @@ pub fn list_records(s: State, store: &[u8], t: Table, entries: &mut [u64])
     ensures entries_len_unchanged { length entries.new ≡ length entries.old }
 {
     let h = state::holding_of(s, t);
-    let sections = h.live.last as u16 + 1;
-    for i in 0..sections {
-        let start = state::place_of(s, t, h.half, i as u8);
-        let b = crate::live_bytes(s, store, t, i as u8);
-        let walk = outline_of(t, b);
+    for i in 0..=h.live.last {
+        let start = state::place_of(s, t, h.half, i);
+        let b = crate::live_bytes(s, store, t, i);
+        let walk = crate::outline_in(t, b);
         let mut at = walk.at;
         let mut index = walk.first as u32;
         for k in 0..walk.count {
-            let Skip::At(next) = past_record(t, b, at, walk.included) else {
+            let Ok(next) = past_record(t, b, at, walk.included) else {
                 break;
             };
             let takes = list_one(entries, t, b, at, index, start + at);

@@ -2,19 +2,21 @@
 use Prim.Native.Nat.{ℕ, ◌+◌, ◌-◌, ◌≤◌, ◌<◌}
 use native.Mathlib.Omega.{arith}
 use mathlib.Core.Path.{◌≡◌, refl, sym, ap, ◌∙◌}
-use mathlib.Core.Bool.{true, false, cond}
+use mathlib.Core.Bool.{Bool, true, false, cond}
 use mathlib.Core.List.{List, [], ◌∷◌, ◌++◌, append-nil}
 use lib.ListN.{length, get_or, take, length-take}
 use lib.Dec.{eqb}
 use borrow.Author.Tests.{eq-eqb, ne_eqb}
 use Rattle.rules.specs.Bytes.{Got, refused, got, and_then, giving, byte, from}
 use Rattle.rules.specs.Descriptors.{Descriptor, descriptor, closing, bodies}
-use Rattle.rules.specs.{Section.revision_tag, Section.revision, Section.first_of, declared.Revision.Revision}
-use Rattle.rules.specs.declared.Asked.TheVariants as asked
+use Rattle.rules.specs.{Section.revision_tag, Section.revision, Section.part, Section.first_of, declared.Revision.Revision}
+use Rattle.std.specs.Prelude.{Option, Result, Ok, Some, None}
+use Rattle.rules.specs.declared.Part.{Part}
+use Rattle.rules.specs.Refusals.{OrRefused, right}
+use Rattle.rules.specs.declared.Refusal.{Refusal}
 use Rattle.rules.proofs.Closing.{closing_end, closing-got, closing-no}
-use Rattle.fields.specs.{Place.Stands, declared.Skip.Skip}
+use Rattle.fields.specs.{Place.Stands}
 use Rattle.section.specs.Closes.{closed_of, seen_of, seen_with, filled, first_in, Lone}
-use Rattle.fields.specs.declared.Skip.TheVariants.{At}
 use Rattle.section.specs.declared.closing.Seen.{Seen}
 use Rattle.section.specs.declared.closing.Seen.TheVariants.{Nothing, Once, Again}
 use Rattle.rules.proofs.Places.{from-length, same_place, desc_at, behind, descriptor-at}
@@ -26,7 +28,7 @@ pub record Here (b : List ℕ) (at i : ℕ) : Type 0 where
   pub next : i ≡ behind b at
   pub within : i ≤ length b
 
-pub here : (b : List ℕ) (at : ℕ) (r : Skip) → Stands b r (descriptor (from b at)) → (i : ℕ) → r ≡ At i → Here b at i
+pub here : (b : List ℕ) (at : ℕ) (r : Result ℕ Refusal) → Stands b r (descriptor (from b at)) → (i : ℕ) → r ≡ Ok i → Here b at i
 here b at r s i e =
     let g = at-got b r (descriptor (from b at)) s i e in
     let inside = at_in b r (descriptor (from b at)) s i e in
@@ -111,22 +113,29 @@ pub listed-on : (b : List ℕ) (at i : ℕ) → Here b at i → filled (closing 
 listed-on b at i h w = sym (listed-giving (λ ds. desc_at b at ∷ ds) (closing (from b i))) ∙ ap filled (sym (closing-got _ _ _ h.is)) ∙ w
 
 module _ (b : List ℕ) (at tag : ℕ) where
-  pub first-end : length b ≤ at → first_in tag at (closing (from b at)) ≡ asked.Absent
+  pub first-end : length b ≤ at → first_in tag at (closing (from b at)) ≡ right None
   unfolding first_in first_of
   first-end h = rw (closing_end (from b at) (omega (arith, from-length b at)))
 
   first-giving : (g : Got (List Descriptor)) → filled g ≡ true
       → first_in tag at (giving (λ ds. desc_at b at ∷ ds) g)
-      ≡ cond (eqb (byte at b) tag) (asked.There (at + 2) (length (desc_at b at).body)) (first_in tag (at + 2 + length (desc_at b at).body) g)
+      ≡ cond (eqb (byte at b) tag) (right (Some (part (at + 2) (length (desc_at b at).body)))) (first_in tag (at + 2 + length (desc_at b at).body) g)
   unfolding first_in first_of giving filled
   first-giving (refused n) e = let z : ◌≡◌ {A = ℕ} 0 1 = cc in absurd (omega arith)
-  first-giving (got ds rest) e = refl
+  first-giving (got ds rest) e = go (eqb (byte at b) tag)
+    where
+      go : (t : Bool)
+          → ◌≡◌ {A = OrRefused (Option Part)}
+          (right (cond t (Some (part (at + 2) (length (desc_at b at).body))) (first_of tag (at + 2 + length (desc_at b at).body) ds)))
+          (cond t (right (Some (part (at + 2) (length (desc_at b at).body)))) (right (first_of tag (at + 2 + length (desc_at b at).body) ds)))
+      go true = refl
+      go false = refl
 
   module _ (i : ℕ) (h : Here b at i) (w : filled (closing (from b at)) ≡ true) where
     body-size : length (desc_at b at).body ≡ byte (at + 1) b
     body-size = length-take (byte (at + 1) b) (from b (at + 2)) ∙ omega (arith, h.next, h.within, from-length b (at + 2))
 
-    pub first-here : byte at b ≡ tag → first_in tag at (closing (from b at)) ≡ asked.There (at + 2) (byte (at + 1) b)
+    pub first-here : byte at b ≡ tag → first_in tag at (closing (from b at)) ≡ right (Some (part (at + 2) (byte (at + 1) b)))
     first-here e = rw (closing-got _ _ _ h.is, first-giving (closing (from b i)) (listed-on b at i h w), eq-eqb _ _ e, body-size)
 
     pub first-pass : (byte at b ≡ tag → ⊥) → first_in tag at (closing (from b at)) ≡ first_in tag i (closing (from b i))

@@ -12,20 +12,17 @@ use Rattle.rules.specs.Layout.{Block, extent, taken, Numbered, records}
 use Rattle.rules.specs.Section.{is_number, medium_at, named, given, header_of, Headed, header_by, header, in_front, Structure, structure, revision_tag}
 use Rattle.rules.specs.Section.{revision, Content, content_of, content, fitting, without_crc, whole, Reading, wrong, right, read, read_section, size_of}
 use Rattle.rules.specs.Section.{closing_at, head_of, read_as, first_of, asked_of, ask, part_at}
-use Rattle.rules.specs.declared.Asked.{Asked}
-use Rattle.rules.specs.declared.Read.TheVariants as reads
-use Rattle.rules.specs.declared.Asked.TheVariants as asked
+use Rattle.std.specs.Prelude.{Some, None}
+use Rattle.std.specs.Prelude as std
+use Rattle.rules.specs.{Refusals.OrRefused, declared.Part.Part}
 use Rattle.rules.proofs.Taken.{unless-got, given-got, giving-got, then-got, taken-got}
 use Rattle.rules.proofs.{Asking.asked-inside, Closing.closing-size, Places.from-length, Right.reads_right, Right.closing-place}
 use Rattle.fields.specs.Outline.{header_size, header_says, behind_header, layout_of, fronted}
 use Rattle.fields.specs.Place.{place_or_end}
 use Rattle.fields.specs.declared.Outline.{Outline}
 use Rattle.fields.proofs.{Laws.place_inside, Outlines.laid, Outlines.Area}
-use Rattle.section.specs.Closes.{closed_as, closed_of, filled, first_in}
-use Rattle.section.specs.Reads.{named_as, header_as, headed_by, headed, behind, answered_as}
-use Rattle.section.specs.declared.header.Named.TheVariants as names
-use Rattle.section.specs.declared.header.Header.TheVariants as header
-use Rattle.section.specs.declared.closing.Closed.TheVariants as closed
+use Rattle.section.specs.Closes.{closed_of, filled, first_in}
+use Rattle.section.specs.Reads.{named_as, table_of, headed_by, headed, behind, answered_as}
 
 -- ---- the header
 
@@ -34,40 +31,40 @@ module _ (bs : List ℕ) where
   unfolding headed unless
   header-cut h = rw (le-ltb _ _ h)
 
-  name_of : (o : Option Table) (t : Table) → names.Table t ≡ named_as o → o ≡ some t
+  name_of : (o : Option Table) (t : Table) → Some t ≡ named_as o → o ≡ some t
   unfolding named_as
   name_of none t e = let z : ◌≡◌ {A = ℕ} 0 1 = cc in absurd (omega arith)
   name_of (some u) t e = cc
 
-  no_name : (o : Option Table) → names.Nothing ≡ named_as o → o ≡ none
+  no_name : (o : Option Table) → None ≡ named_as o → o ≡ none
   unfolding named_as
   no_name none e = refl
   no_name (some u) e = let z : ◌≡◌ {A = ℕ} 0 1 = cc in absurd (omega arith)
 
   module _ (h : medium_at (byte 0 bs) < length bs) where
-    pub header-unnamed : names.Nothing ≡ named_as (named (byte 0 bs) (byte (medium_at (byte 0 bs)) bs)) → headed bs ≡ refused 7
+    pub header-unnamed : None ≡ named_as (named (byte 0 bs) (byte (medium_at (byte 0 bs)) bs)) → headed bs ≡ refused 7
     unfolding headed unless given
     header-unnamed e = rw (lt-ltb _ _ h, no_name _ e)
 
-    pub header-named : (t : Table) → names.Table t ≡ named_as (named (byte 0 bs) (byte (medium_at (byte 0 bs)) bs)) → headed bs ≡ headed_by t bs
+    pub header-named : (t : Table) → Some t ≡ named_as (named (byte 0 bs) (byte (medium_at (byte 0 bs)) bs)) → headed bs ≡ headed_by t bs
     unfolding headed unless given
     header-named t e = rw (lt-ltb _ _ h, name_of _ t e)
 
 -- the cases of the header's answer
 module _ (g : Got Headed) where
-  header_names : (t : Table) → header.Names t ≡ header_as g → (h : Headed) × (rest : List ℕ) × (h.table ≡ t) × (g ≡ got h rest)
-  unfolding header_as
+  header_names : (t : Table) → right t ≡ table_of g → (h : Headed) × (rest : List ℕ) × (h.table ≡ t) × (g ≡ got h rest)
+  unfolding table_of
   header_names t e = go g e
     where
-      go : (x : Got Headed) → header.Names t ≡ header_as x → (h : Headed) × (rest : List ℕ) × (h.table ≡ t) × (x ≡ got h rest)
+      go : (x : Got Headed) → right t ≡ table_of x → (h : Headed) × (rest : List ℕ) × (h.table ≡ t) × (x ≡ got h rest)
       go (refused n) q = let z : ◌≡◌ {A = ℕ} 0 1 = cc in absurd (omega arith)
       go (got h rest) q = (h, rest, cc, refl)
 
-  pub header-no : (n : ℕ) → header.Refused n ≡ header_as g → g ≡ refused n
-  unfolding header_as
+  pub header-no : (n : ℕ) → wrong n ≡ table_of g → g ≡ refused n
+  unfolding table_of
   header-no n e = go g e
     where
-      go : (x : Got Headed) → header.Refused n ≡ header_as x → x ≡ refused n
+      go : (x : Got Headed) → wrong n ≡ table_of x → x ≡ refused n
       go (refused m) q = cc
       go (got u rest) q = let z : ◌≡◌ {A = ℕ} 0 1 = cc in absurd (omega arith)
 
@@ -118,16 +115,16 @@ headed-got b h rest e =
 
 -- ---- the content
 
-pub shown-no : (b : List ℕ) (n : ℕ) (g : Got Content) → g ≡ refused n → reads.Refused n ≡ answered_as b g
+pub shown-no : (b : List ℕ) (n : ℕ) (g : Got Content) → g ≡ refused n → wrong n ≡ answered_as b g
 unfolding answered_as
 shown-no b n g e = sym (ap (answered_as b) e)
 
-pub content-unheaded : (b : List ℕ) (n : ℕ) → header.Refused n ≡ header_as (headed b) → content b ≡ refused n
+pub content-unheaded : (b : List ℕ) (n : ℕ) → wrong n ≡ table_of (headed b) → content b ≡ refused n
 unfolding and_then
 content-unheaded b n e = content-by b ∙ rw (header-no (headed b) n e)
 
 -- a header that names a table is whole, says what its bytes say, and leaves those behind them
-pub content-headed : (b : List ℕ) (t : Table) → header.Names t ≡ header_as (headed b) → (content b ≡ behind t b) × (header_size t ≤ length b)
+pub content-headed : (b : List ℕ) (t : Table) → right t ≡ table_of (headed b) → (content b ≡ behind t b) × (header_size t ≤ length b)
 unfolding and_then behind
 content-headed b t e =
     let g = header_names (headed b) t e in
@@ -141,8 +138,8 @@ content-headed b t e =
 abbrev made : Table → Structure → List Descriptor → Revision → Content
 made t x ds r = record { table = t; structure = x; closing = ds; revision = r }
 
-closed-got : (g : Got Revision) (r : Revision) → closed.Revised r ≡ closed_as g → (rest : List ℕ) × (g ≡ got r rest)
-unfolding closed_as
+closed-got : (g : Got Revision) (r : Revision) → right r ≡ read g → (rest : List ℕ) × (g ≡ got r rest)
+unfolding read
 closed-got (refused n) r q = let z : ◌≡◌ {A = ℕ} 0 1 = cc in absurd (omega arith)
 closed-got (got s rest) r q = (rest, cc)
 
@@ -195,35 +192,35 @@ module _ (t : Table) (b : List ℕ) where
       unfolding and_then
       behind-ending = behind-rows ∙ rw e
 
-      pub unclosed : (n : ℕ) → closed.Refused n ≡ closed_as (closed_of (from b at)) → behind t b ≡ refused n
-      unfolding and_then closed_of closed_as giving
+      pub unclosed : (n : ℕ) → wrong n ≡ read (closed_of (from b at)) → behind t b ≡ refused n
+      unfolding and_then closed_of read giving
       unclosed n q = behind-ending ∙ go (closing (from b at)) q
         where
-          judge : (ds : List Descriptor) (g : Got Revision) → closed.Refused n ≡ closed_as g → giving (made t (built a.front rs) ds) g ≡ refused n
+          judge : (ds : List Descriptor) (g : Got Revision) → wrong n ≡ read g → giving (made t (built a.front rs) ds) g ≡ refused n
           judge ds (refused m) p = cc
           judge ds (got r rest) p = let z : ◌≡◌ {A = ℕ} 0 1 = cc in absurd (omega arith)
 
-          go : (g : Got (List Descriptor)) → closed.Refused n ≡ closed_as (and_then g (λ ds end. revision (bodies revision_tag ds)))
+          go : (g : Got (List Descriptor)) → wrong n ≡ read (and_then g (λ ds end. revision (bodies revision_tag ds)))
               → and_then g (λ ds end. giving (made t (built a.front rs) ds) (revision (bodies revision_tag ds))) ≡ refused n
           go (refused m) p = cc
           go (got ds end) p = judge ds (revision (bodies revision_tag ds)) p
 
       -- the closing list has the bytes from its place on
-      list-got : (r : Revision) → closed.Revised r ≡ closed_as (closed_of (from b at))
+      list-got : (r : Revision) → right r ≡ read (closed_of (from b at))
           → (ds : List Descriptor) × (end : List ℕ) × (rest : List ℕ) × (closing (from b at) ≡ got ds end) × (revision (bodies revision_tag ds) ≡ got r rest)
       unfolding closed_of
       list-got r q = let c = closed-got _ r q in let d = then-got _ _ _ _ c.1 in (d.value, d.behind, c.0, d.one, d.more)
 
-      pub read_right : at ≤ length b → (r : Revision) → closed.Revised r ≡ closed_as (closed_of (from b at))
+      pub read_right : at ≤ length b → (r : Revision) → right r ≡ read (closed_of (from b at))
           → (l : Language) → l ≡ (header_says t b).language
-          → reads.Right (record { table = t; map = o.map; language = l; revision = r; closing = at }) ≡ answered_as b (behind t b)
+          → right (record { table = t; map = o.map; language = l; revision = r; closing = at }) ≡ answered_as b (behind t b)
       unfolding answered_as head_of closing_at and_then giving
       read_right h r q l spoken =
           let d = list-got r q in
           let p : length b - size_of d.0 ≡ at = omega (arith, closing-size (from b at) d.0 d.1 d.3, from-length b at) in
           let same : l ≡ a.front.language = spoken ∙ sym a.language in
           rw (behind-ending, d.3, d.4, p)
-          (ap₂ (λ (m : ℕ) (k : Language). reads.Right (record { table = t; map = m; language = k; revision = r; closing = at })) a.map same)
+          (ap₂ (λ (m : ℕ) (k : Language). right (record { table = t; map = m; language = k; revision = r; closing = at })) a.map same)
 
 -- ---- the whole section
 
@@ -250,7 +247,7 @@ module _ (s : List ℕ) where
       unfolding whole unless
       whole-so c p = rw (f, n, eq-eqb _ _ c, eq-eqb _ _ p)
 
-  pub reads-no : (n : ℕ) → whole s ≡ refused n → reads.Refused n ≡ read_as s (read_section s)
+  pub reads-no : (n : ℕ) → whole s ≡ refused n → wrong n ≡ read_as s (read_section s)
   unfolding read_section read read_as
   reads-no n e = rw e
 
@@ -265,21 +262,21 @@ module _ (s : List ℕ) where
 -- ---- the descriptor question
 
 module _ (s : List ℕ) where
-  pub ask-refused : (tag n : ℕ) → reads.Refused n ≡ read_as s (read_section s) → asked.Refused n ≡ ask tag s
+  pub ask-refused : (tag n : ℕ) → wrong n ≡ read_as s (read_section s) → wrong n ≡ ask tag s
   unfolding ask asked_of read_as
   ask-refused tag n e = go (read_section s) e
     where
-      go : (g : Reading) → reads.Refused n ≡ read_as s g → asked.Refused n ≡ asked_of tag s g
+      go : (g : Reading) → wrong n ≡ read_as s g → wrong n ≡ asked_of tag s g
       go (wrong m) q = cc
       go (right c) q = let z : ◌≡◌ {A = ℕ} 0 1 = cc in absurd (omega arith)
 
-  right_of : (h : SectionHead) (g : Reading) → reads.Right h ≡ read_as s g
+  right_of : (h : SectionHead) (g : Reading) → right h ≡ read_as s g
       → (c : Content) × (g ≡ right c) × (h.closing ≡ closing_at (without_crc s) c.closing)
   unfolding read_as head_of
   right_of h (wrong n) q = let z : ◌≡◌ {A = ℕ} 0 1 = cc in absurd (omega arith)
   right_of h (right c) q = (c, refl, cc)
 
-  module _ (h : SectionHead) (e : reads.Right h ≡ read_as s (read_section s)) where
+  module _ (h : SectionHead) (e : right h ≡ read_as s (read_section s)) where
     abbrev found : (c : Content) × (read_section s ≡ right c) × (h.closing ≡ closing_at (without_crc s) c.closing)
     found = right_of h (read_section s) e
 
@@ -298,10 +295,10 @@ module _ (s : List ℕ) where
     pub ask-first : (tag : ℕ) → first_in tag h.closing (closing (from (without_crc s) h.closing)) ≡ ask tag s
     unfolding ask asked_of first_in
     ask-first tag =
-        ap (first_in tag h.closing) list.1 ∙ ap (λ (at : ℕ). first_of tag at found.0.closing) found.2 ∙ ap (asked_of tag s) (sym found.1)
+        ap (first_in tag h.closing) list.1 ∙ ap (λ (at : ℕ). right (first_of tag at found.0.closing)) found.2 ∙ ap (asked_of tag s) (sym found.1)
 
 -- a body that is there stands inside its section
-pub there-inside : (tag : ℕ) (s : List ℕ) {a : Asked} (start size : ℕ) → a ≡ ask tag s → a ≡ asked.There start size → place_or_end s start ≡ start
+pub there-inside : (tag : ℕ) (s : List ℕ) {a : OrRefused (std.Option Part)} (x : Part) → a ≡ ask tag s → a ≡ right (Some x) → place_or_end s x.start ≡ x.start
 unfolding part_at
-there-inside tag s start size e there =
-    place_inside s start (subst (λ (x : Asked). part_at x ≤ length s) (sym e ∙ there) (asked-inside tag s))
+there-inside tag s x e there =
+    place_inside s x.start (subst (λ (y : OrRefused (std.Option Part)). part_at y ≤ length s) (sym e ∙ there) (asked-inside tag s))

@@ -3,15 +3,10 @@ use Rattle.std.specs.Prelude.{ℕ, ◌+◌, length, get_or, take}
 use mathlib.Core.{Path.◌≡◌, Bool.Bool, Bool.true, Bool.false, List.List, List.[], List.◌∷◌}
 use Rattle.rules.specs.Bytes.{Got, refused, got, and_then, from}
 use Rattle.rules.specs.{Descriptors.Descriptor, Descriptors.closing, Descriptors.bodies, Section.revision_tag, Section.revision, Section.first_of}
-use Rattle.rules.specs.{declared.Revision.Revision, declared.Asked.Asked}
-use Rattle.rules.specs.declared.Asked.TheVariants as asked
-use Rattle.section.specs.{declared.closing.Closed.Closed, declared.closing.Seen.Seen}
-use Rattle.section.specs.declared.closing.Closed.TheVariants as closed
+use Rattle.rules.specs.{Refusals.OrRefused, Refusals.wrong, Refusals.right, declared.Revision.Revision, declared.Part.Part}
+use Rattle.std.specs.Prelude.{Option}
+use Rattle.section.specs.{declared.closing.Seen.Seen}
 use Rattle.section.specs.declared.closing.Seen.TheVariants.{Nothing, Once, Again}
-
-unfoldable pub closed_as : Got Revision → Closed
-closed_as (refused n) = closed.Refused n
-closed_as (got r rest) = closed.Revised r
 
 -- the closing list, and then its revision
 unfoldable pub closed_of : List ℕ → Got Revision
@@ -33,9 +28,9 @@ unfoldable pub filled : {A : Type 0} → Got A → Bool
 filled (refused n) = false
 filled (got a rest) = true
 
-unfoldable pub first_in : (tag at : ℕ) → Got (List Descriptor) → Asked
-first_in tag at (refused n) = asked.Refused n
-first_in tag at (got ds rest) = first_of tag at ds
+unfoldable pub first_in : (tag at : ℕ) → Got (List Descriptor) → OrRefused (Option Part)
+first_in tag at (refused n) = wrong n
+first_in tag at (got ds rest) = right (first_of tag at ds)
 
 -- one revision descriptor, and nothing behind it
 pub record Lone (b : List ℕ) (at : ℕ) : Type 0 where

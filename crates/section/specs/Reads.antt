@@ -3,21 +3,19 @@ use mathlib.Core.{Bool.true, List.List, Option.Option, Option.none, Option.some}
 use Rattle.std.specs.Prelude.{ℕ}
 use lib.{ListN.length, Dec.ltb}
 use Rattle.rules.specs.Bytes.{Got, refused, got, unless, giving, byte}
-use Rattle.rules.specs.{Layout.taken, Form.form, declared.Table.Table, declared.Read.Read}
+use Rattle.std.specs.Prelude.{Some, None}
+use Rattle.std.specs.Prelude as std
+use Rattle.rules.specs.{Layout.taken, Form.form, declared.Table.Table, declared.SectionHead.SectionHead, Refusals.OrRefused, Refusals.wrong, Refusals.right}
 use Rattle.rules.specs.Section.{medium_at, named, given, header_of, Headed, Content, content_of, head_of}
 use Rattle.fields.specs.Outline.{header_says, behind_header}
-use Rattle.rules.specs.declared.Read.TheVariants as read
-use Rattle.section.specs.{declared.header.Named.Named, declared.header.Header.Header}
-use Rattle.section.specs.declared.header.Named.TheVariants as names
-use Rattle.section.specs.declared.header.Header.TheVariants as header
 
-unfoldable pub named_as : Option Table → Named
-named_as none = names.Nothing
-named_as (some t) = names.Table t
+unfoldable pub named_as : Option Table → std.Option Table
+named_as none = None
+named_as (some t) = Some t
 
-unfoldable pub header_as : Got Headed → Header
-header_as (refused n) = header.Refused n
-header_as (got h rest) = header.Names h.table
+unfoldable pub table_of : Got Headed → OrRefused Table
+table_of (refused n) = wrong n
+table_of (got h rest) = right h.table
 
 -- the header as the rule takes it, but for its limits, which the table's room judges
 unfoldable pub headed_by : Table → List ℕ → Got Headed
@@ -35,6 +33,6 @@ behind t bs =
     (content_of (record { table = t; front = header_says t bs }) (behind_header t bs))
 
 -- the reader's answer, of the section without its CRC
-unfoldable pub answered_as : List ℕ → Got Content → Read
-answered_as b (refused n) = read.Refused n
-answered_as b (got c rest) = read.Right (head_of b c)
+unfoldable pub answered_as : List ℕ → Got Content → OrRefused SectionHead
+answered_as b (refused n) = wrong n
+answered_as b (got c rest) = right (head_of b c)

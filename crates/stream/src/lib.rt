@@ -5,12 +5,11 @@
 ghost use Rattle.std.specs.Prelude.{◌≡◌, ◌+◌, ◌-◌, ◌≤◌, [], ◌∷◌, length, take};
 ghost use Rattle.rules.specs.Bytes.{word, from};
 ghost use Rattle.rules.specs.Holding.{put};
-ghost use Rattle.rules.specs.Lineup.{refusals};
 ghost use Rattle.rules.specs.Feeding.{taking, unfinished};
 ghost use Rattle.rules.specs.Feeding as rule;
 ghost use Rattle.stream.specs.Tallied.{begun, intake_of, Room, Grew};
 
-use rules::{Answer, State};
+use rules::State;
 
 // The state of the box, how many sections it was offered, and how many of them it refused.
 #[derive(Clone, Copy)]
@@ -27,7 +26,8 @@ pub struct Fed {
     pub used: usize,
 }
 
-// After a piece in a buffer: the tally, and how many bytes at the front of the buffer are kept.
+// After a piece in a buffer: the tally, and how many bytes at the front of the buffer are kept. (A length beside a lent buffer, here and in those who
+// read into it: there is no heap.)
 #[derive(Clone, Copy)]
 pub struct Absorbed {
     pub tally: Tally,
@@ -53,33 +53,24 @@ pub fn begin(map: u16, language: [u8; 3]) -> Tally
     }
 }
 
-// 1 for a refusal, else 0.
-fn refusals_of(a: Answer) -> u64
-    ensures { (result ≡ refusals (a ∷ [])) × (result ≤ 1) }
-{
-    match a {
-        Answer::Refused(_) => 1,
-        Answer::OtherMap => 0,
-        Answer::Repeat => 0,
-        Answer::Stored(_) => 0,
-        Answer::Live(_) => 0,
-    }
-}
-
 // Offers one section.
 fn offer_one(t: Tally, store: &mut [u8], section: &[u8]) -> Tally
     requires { Room t 1 }
     ensures store_after { intake_of result store.new [] ≡ taking (intake_of t store.old []) (section.now ∷ []) [] }
     ensures grew { Grew t result 1 }
 {
-    let offered = receiver::offer(t.state, store, section);
-    let answer = offered.answer;
-    let state = offered.state;
-    let refused = refusals_of(answer);
-    Tally {
-        state,
-        sections: t.sections + 1,
-        refused: t.refused + refused,
+    let sections = t.sections + 1;
+    match receiver::offer(t.state, store, section) {
+        Ok(offered) => Tally {
+            state: offered.state,
+            sections,
+            refused: t.refused,
+        },
+        Err(_) => Tally {
+            state: t.state,
+            sections,
+            refused: t.refused + 1,
+        },
     }
 }
 
@@ -92,8 +83,7 @@ pub fn feed(t: Tally, store: &mut [u8], piece: &[u8]) -> Fed
 {
     let mut tally = t;
     let mut used = 0;
-    let mut left = piece.len();
-    while left > 0 {
+    for offers in 0..piece.len() {
         let rest = &piece[used..];
         let size = 3 + fields::length_of(rest) as usize;
         if rest.len() < size {
@@ -101,7 +91,6 @@ pub fn feed(t: Tally, store: &mut [u8], piece: &[u8]) -> Fed
         }
         tally = offer_one(tally, store, &rest[..size]);
         used += size;
-        left -= 1;
     }
     Fed { tally, used }
 }
@@ -112,13 +101,8 @@ fn keep(buffer: &mut [u8], used: usize, have: usize) -> usize
     ensures value { result ≡ have - used }
     ensures buffer_after { buffer.new ≡ put buffer.old 0 (take (have - used) (from buffer.old used)) }
 {
-    let n = have - used;
-    let mut i = 0;
-    while i < n {
-        buffer[i] = buffer[used + i];
-        i += 1;
-    }
-    n
+    buffer.copy_within(used..have, 0);
+    have - used
 }
 
 // A piece of `got` bytes was read into the buffer, behind what was kept there: offers the whole sections of both together, and
@@ -143,7 +127,7 @@ pub fn finish(t: Tally, store: &mut [u8], kept: &[u8]) -> Tally
     requires { Room t 1 }
     ensures { intake_of result store.new [] ≡ rule.finish (intake_of t store.old kept.now) }
 {
-    if kept.len() == 0 {
+    if kept.is_empty() {
         return t;
     }
     offer_one(t, store, kept)

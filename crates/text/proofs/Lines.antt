@@ -5,7 +5,9 @@ use mathlib.Core.Path.{◌≡◌, sym, ap, ◌∙◌}
 use mathlib.Core.List.{List, [], ◌∷◌, ◌++◌, flatten, append-nil, append_assoc}
 use lib.ListN.{length, take, drop, take-append-drop}
 use borrow.Author.Tests.{eq-eqb, ne_eqb}
-use Rattle.rules.specs.{Holding.put, declared.LiveVersion.LiveVersion, declared.Tuned.Tuned}
+use Rattle.rules.specs.{Holding.put, declared.LiveVersion.LiveVersion, declared.Tuned.Tuned, declared.Refusal.Refusal}
+use Rattle.std.specs.Prelude.{Result}
+use Rattle.rules.specs.Refusals.{OrRefused, by_number}
 use Rattle.rules.specs.Lineup.{text, decimal, version, channel_line}
 use Rattle.text.specs.Written.{Wrote, line_of}
 
@@ -26,7 +28,7 @@ nothing out at h =
     record { room = omega arith; behind = omega arith; holds = rw add-zero (sym same) }
 
 -- a channel's only line
-pub line-of : {out : List ℕ} {at : ℕ} {line out' : List ℕ} {r most : ℕ} {t u : Tuned} (number : ℕ) → t ≡ u → channel_line number u ≡ line ∷ []
+pub line-of : {out : List ℕ} {at : ℕ} {line out' : List ℕ} {r most : ℕ} {t u : OrRefused Tuned} (number : ℕ) → t ≡ u → channel_line number u ≡ line ∷ []
     → (r ≤ most) × Wrote out at line out' r → (r ≤ most) × Wrote out at (flatten (channel_line number t)) out' r
 unfolding flatten
 line-of {line = line} number e l w = (w.0, rw (e, l, append-nil line) w.1)

@@ -6,10 +6,11 @@ ghost use Rattle.std.specs.Prelude.{◌≡◌, ◌+◌, ◌*◌, ◌<◌, ◌≤
 ghost use mathlib.Core.List.{[], ◌∷◌, ◌++◌, flatten};
 ghost use Rattle.rules.specs.Lineup.{text, decimal, version, version_lines, mode_fields, channel_line};
 ghost use Rattle.rules.specs.Lineup as rule;
+ghost use Rattle.rules.specs.Refusals.{by_number};
 ghost use Rattle.rules.specs.LabelLines.{hex_digit, hexadecimal, label_line, label_heading};
 ghost use Rattle.text.specs.Written.{Wrote, Counts, hex_pair, field_of, line_of, front_of, khz_front, coding_fields, count_lines};
 
-use rules::{LiveVersion, Mode, State, Tuned};
+use rules::{LiveVersion, Mode, Refusal, State, Tuned};
 
 // ---- text and numbers
 
@@ -37,7 +38,7 @@ fn digit(d: u64) -> u8
     48 + d as u8
 }
 
-// A number in decimal, with no zero in front.
+// A number in decimal, with no zero in front. (No `Display`: the digits go to a place of a lent buffer, and the place behind them is answered.)
 fn put_number(out: &mut [u8], at: usize, n: u64) -> usize
     requires { at + length (decimal n) ≤ length out.old }
     ensures { Wrote out.old at (decimal n) out.new result }
@@ -75,10 +76,8 @@ fn put_hex(out: &mut [u8], at: usize, bytes: &[u8]) -> usize
     ensures { (result ≤ at + length bytes.now * 2) × Wrote out.old at (hexadecimal bytes.now) out.new result }
 {
     let mut next = at;
-    let mut i = 0;
-    while i < bytes.len() {
-        next = put_pair(out, next, bytes[i]);
-        i += 1;
+    for &b in bytes {
+        next = put_pair(out, next, b);
     }
     next
 }
@@ -174,31 +173,30 @@ pub fn labels_refused(out: &mut [u8; 256]) -> usize
 
 // ---- the line of a channel
 
-// What every line has in front.
-fn put_front(out: &mut [u8], at: usize, number: u16, kind: &[u8], hidden: u8, path: u8) -> usize
+// What every line has in front, but for its kind.
+#[derive(Clone, Copy)]
+struct Front {
+    number: u16,
+    hidden: u8,
+    path: u8,
+}
+
+fn put_front(out: &mut [u8], at: usize, kind: &[u8], f: Front) -> usize
     requires { at + length kind.now + 82 ≤ length out.old }
-    ensures { (result ≤ at + length kind.now + 82) × Wrote out.old at (front_of number kind.now hidden path) out.new result }
+    ensures { (result ≤ at + length kind.now + 82) × Wrote out.old at (front_of f.number kind.now f.hidden f.path) out.new result }
 {
-    let first = put_field(out, at, b"channel=", number as u64);
+    let first = put_field(out, at, b"channel=", f.number as u64);
     let second = put(out, first, kind);
-    let third = put_field(out, second, b" hidden=", hidden as u64);
-    put_field(out, third, b" path=", path as u64)
+    let third = put_field(out, second, b" hidden=", f.hidden as u64);
+    put_field(out, third, b" path=", f.path as u64)
 }
 
 // And what the lines of digital and analogue channels go on with.
-fn put_place(
-    out: &mut [u8],
-    at: usize,
-    number: u16,
-    kind: &[u8],
-    hidden: u8,
-    path: u8,
-    khz: u32,
-) -> usize
+fn put_place(out: &mut [u8], at: usize, kind: &[u8], f: Front, khz: u32) -> usize
     requires { at + length kind.now + 107 ≤ length out.old }
-    ensures { (result ≤ at + length kind.now + 107) × Wrote out.old at (khz_front number kind.now hidden path khz) out.new result }
+    ensures { (result ≤ at + length kind.now + 107) × Wrote out.old at (khz_front f.number kind.now f.hidden f.path khz) out.new result }
 {
-    let next = put_front(out, at, number, kind, hidden, path);
+    let next = put_front(out, at, kind, f);
     put_field(out, next, b" khz=", khz as u64)
 }
 
@@ -220,87 +218,95 @@ fn put_mode(out: &mut [u8], at: usize, m: Mode) -> usize
     put_field(out, second, b" symbols=", m.symbols as u64)
 }
 
-fn put_digital(
-    out: &mut [u8],
-    at: usize,
-    number: u16,
-    hidden: u8,
-    path: u8,
-    khz: u32,
-    program: u16,
-    mode: Mode,
-) -> usize
+fn put_digital(out: &mut [u8], at: usize, f: Front, khz: u32, program: u16, mode: Mode) -> usize
     requires { at + 289 ≤ length out.old }
-    ensures { (result ≤ at + 289) × Wrote out.old at (khz_front number (text " kind=digital") hidden path khz ++ field_of (text " program=") program ++ mode_fields mode ++ text "\n") out.new result }
+    ensures { (result ≤ at + 289) × Wrote out.old at (khz_front f.number (text " kind=digital") f.hidden f.path khz ++ field_of (text " program=") program ++ mode_fields mode ++ text "\n") out.new result }
 {
-    let first = put_place(out, at, number, b" kind=digital", hidden, path, khz);
+    let first = put_place(out, at, b" kind=digital", f, khz);
     let second = put_field(out, first, b" program=", program as u64);
     let third = put_mode(out, second, mode);
     put(out, third, b"\n")
 }
 
-fn put_analogue(
-    out: &mut [u8],
-    at: usize,
-    number: u16,
-    hidden: u8,
-    path: u8,
-    khz: u32,
-    standard: u8,
-    scrambled: u8,
-) -> usize
+fn put_analogue(out: &mut [u8], at: usize, f: Front, khz: u32, standard: u8, scrambled: u8) -> usize
     requires { at + 289 ≤ length out.old }
-    ensures { (result ≤ at + 289) × Wrote out.old at (khz_front number (text " kind=analogue") hidden path khz ++ field_of (text " standard=") standard ++ field_of (text " scrambled=") scrambled ++ text "\n") out.new result }
+    ensures { (result ≤ at + 289) × Wrote out.old at (khz_front f.number (text " kind=analogue") f.hidden f.path khz ++ field_of (text " standard=") standard ++ field_of (text " scrambled=") scrambled ++ text "\n") out.new result }
 {
-    let first = put_place(out, at, number, b" kind=analogue", hidden, path, khz);
+    let first = put_place(out, at, b" kind=analogue", f, khz);
     let second = put_field(out, first, b" standard=", standard as u64);
     let third = put_field(out, second, b" scrambled=", scrambled as u64);
     put(out, third, b"\n")
 }
 
-fn put_application(
-    out: &mut [u8],
-    at: usize,
-    number: u16,
-    hidden: u8,
-    path: u8,
-    application: u16,
-) -> usize
+fn put_application(out: &mut [u8], at: usize, f: Front, application: u16) -> usize
     requires { at + 289 ≤ length out.old }
-    ensures { (result ≤ at + 289) × Wrote out.old at (front_of number (text " kind=application") hidden path ++ field_of (text " application=") application ++ text "\n") out.new result }
+    ensures { (result ≤ at + 289) × Wrote out.old at (front_of f.number (text " kind=application") f.hidden f.path ++ field_of (text " application=") application ++ text "\n") out.new result }
 {
-    let first = put_front(out, at, number, b" kind=application", hidden, path);
+    let first = put_front(out, at, b" kind=application", f);
     let second = put_field(out, first, b" application=", application as u64);
     put(out, second, b"\n")
 }
 
 // The line of a channel that tunes or is an application, and nothing for a channel that is refused. Answers the place behind
 // it.
-pub fn channel_line(out: &mut [u8], at: usize, number: u16, tuned: Tuned) -> usize
+pub fn channel_line(out: &mut [u8], at: usize, number: u16, tuned: Result<Tuned, Refusal>) -> usize
     requires { at + 289 ≤ length out.old }
-    ensures { (result ≤ at + 289) × Wrote out.old at (flatten (channel_line number tuned)) out.new result }
+    ensures { (result ≤ at + 289) × Wrote out.old at (flatten (channel_line number (by_number tuned))) out.new result }
 {
+    let Ok(tuned) = tuned else {
+        return at;
+    };
     match tuned {
-        Tuned::Refused(_) => at,
         Tuned::Digital {
             hidden,
             path,
             khz,
             program,
             mode,
-        } => put_digital(out, at, number, hidden, path, khz, program, mode),
+        } => put_digital(
+            out,
+            at,
+            Front {
+                number,
+                hidden,
+                path,
+            },
+            khz,
+            program,
+            mode,
+        ),
         Tuned::Analogue {
             hidden,
             path,
             khz,
             standard,
             scrambled,
-        } => put_analogue(out, at, number, hidden, path, khz, standard, scrambled),
+        } => put_analogue(
+            out,
+            at,
+            Front {
+                number,
+                hidden,
+                path,
+            },
+            khz,
+            standard,
+            scrambled,
+        ),
         Tuned::Application {
             hidden,
             path,
             number: application,
-        } => put_application(out, at, number, hidden, path, application),
+        } => put_application(
+            out,
+            at,
+            Front {
+                number,
+                hidden,
+                path,
+            },
+            application,
+        ),
     }
 }
 
@@ -316,29 +322,12 @@ pub fn label_line(out: &mut [u8], at: usize, number: u16, label: &[u8]) -> usize
 }
 
 // How many lines a channel has: 1, or 0 where it is refused.
-pub fn lines_of(number: u16, tuned: Tuned) -> u64
-    ensures { result ≡ length (channel_line number tuned) }
+#[tactic(auto, unfolding(rules::specs::Lineup::channel_line))]
+pub fn lines_of(number: u16, tuned: Result<Tuned, Refusal>) -> u64
+    ensures { result ≡ length (channel_line number (by_number tuned)) }
 {
     match tuned {
-        Tuned::Refused(_) => 0,
-        Tuned::Digital {
-            hidden: _,
-            path: _,
-            khz: _,
-            program: _,
-            mode: _,
-        } => 1,
-        Tuned::Analogue {
-            hidden: _,
-            path: _,
-            khz: _,
-            standard: _,
-            scrambled: _,
-        } => 1,
-        Tuned::Application {
-            hidden: _,
-            path: _,
-            number: _,
-        } => 1,
+        Ok(_) => 1,
+        Err(_) => 0,
     }
 }

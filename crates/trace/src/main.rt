@@ -4,34 +4,25 @@
 
 ghost use Rattle.std.specs.Prelude.{◌≡◌, ◌+◌, ◌≤◌, length, take};
 
-use rules::{Answer, State};
+use rules::{Answer, Refusal, State};
 use std::io::Read;
 
 // The longest section that a length of 12 bits can announce.
 const LONGEST: usize = 4098;
 
-fn write(rt: &impl Print, text: &[u8]) {
-    let _ = rt.write_all(text);
+// What can't be written is left: the next line is tried all the same.
+fn write_answer(rt: &impl Print, answer: Result<Answer, Refusal>) {
+    let _ = match answer {
+        Err(refusal) => println!(rt; "answer=refused number={}", refusal.number()),
+        Ok(Answer::OtherMap) => println!(rt; "answer=other-map"),
+        Ok(Answer::Repeat) => println!(rt; "answer=repeat"),
+        Ok(Answer::Stored(missing)) => println!(rt; "answer=stored missing={missing}"),
+        Ok(Answer::Live(version)) => println!(rt; "answer=live version={version}"),
+    };
 }
 
-// A line with a number at its end.
-fn write_number(rt: &impl Print, text: &[u8], n: u8) {
-    write(rt, text);
-    let _ = rt.print(n);
-    write(rt, b"\n");
-}
-
-fn write_answer(rt: &impl Print, a: Answer) {
-    match a {
-        Answer::Refused(n) => write_number(rt, b"answer=refused number=", n),
-        Answer::OtherMap => write(rt, b"answer=other-map\n"),
-        Answer::Repeat => write(rt, b"answer=repeat\n"),
-        Answer::Stored(missing) => write_number(rt, b"answer=stored missing=", missing),
-        Answer::Live(version) => write_number(rt, b"answer=live version=", version),
-    }
-}
-
-// Reads until the buffer is full, the input ends or a read fails: how many bytes there are at its front.
+// Reads until the buffer is full, the input ends or a read fails: how many bytes there are at its front. (No `read_exact`: the last
+// section may be cut short, and is offered so.)
 fn read_full<R: Read>(reader: &mut R, buffer: &mut [u8]) -> usize
     ensures in_bounds { result ≤ length buffer.new }
     ensures front { result ≡ length (take result buffer.new) }
@@ -68,14 +59,11 @@ fn next_section<R: Read>(reader: &mut R, buffer: &mut [u8]) -> usize
     3 + read_at(reader, buffer, 3, rest)
 }
 
-// What an offer of the first bytes of the buffer leaves; its answer is written.
-fn offer_front(rt: &impl Print, state: State, store: &mut [u8], buffer: &[u8], size: usize) -> State
-    requires { size ≤ length buffer.now }
-{
-    let offered = receiver::offer(state, store, &buffer[..size]);
-    let answer = offered.answer;
-    write_answer(rt, answer);
-    offered.state
+// What an offer of a section leaves; its answer is written.
+fn offer_one(rt: &impl Print, state: State, store: &mut [u8], section: &[u8]) -> State {
+    let offered = receiver::offer(state, store, section);
+    write_answer(rt, offered.map(|o| o.answer));
+    offered.map_or(state, |o| o.state)
 }
 
 // Offers section after section. A proved loop has to end, and nothing says that an input does: no run uses the turns up.
@@ -89,14 +77,12 @@ fn follow<R: Read>(
     requires { 4098 ≤ length buffer.old }
 {
     let mut state = start;
-    let mut turns = u64::MAX;
-    while turns > 0 {
+    for turn in 0..u64::MAX {
         let size = next_section(reader, buffer);
         if size == 0 {
             return;
         }
-        state = offer_front(rt, state, store, buffer, size);
-        turns -= 1;
+        state = offer_one(rt, state, store, &buffer[..size]);
     }
 }
 
@@ -104,7 +90,7 @@ fn main(rt: HostRuntime) {
     let mut map = [0u8; 2];
     let mut input = rt.stdin();
     if read_full(&mut input, &mut map) < 2 {
-        write(&rt, b"trace=refused\n");
+        let _ = println!(rt; "trace=refused");
         return;
     }
     let mut store = [0u8; receiver::STORE];

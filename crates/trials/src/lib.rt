@@ -4,105 +4,101 @@
 #![tactic(auto)]
 
 ghost use Rattle.std.specs.Prelude.{◌≡◌, length};
-ghost use Rattle.rules.specs.Holding.{fresh, offered, store_after};
+ghost use Rattle.rules.specs.Holding.{fresh, offered, outcome, store_after};
+ghost use Rattle.rules.specs.Refusals.{by_number};
 ghost use Rattle.rules.specs.Tuning.{tune};
 ghost use Rattle.rules.specs.Label.{labelled, label_bytes};
 ghost use Rattle.tuner.specs.Checks.{checks};
 ghost use Rattle.trials.specs.Coded.{holding_from, language_from, state_from, holding_number, language_number};
-ghost use Rattle.trials.specs.Coded.{names_part, state_part, answer_number, offered_part, head_number, digital_number};
+ghost use Rattle.trials.specs.Coded.{state_part, answer_number, offered_part, head_number, digital_number};
 ghost use Rattle.trials.specs.Coded.{tuned_head, tuned_rest, tuned_symbols, tuned_part, label_kind, label_start, label_size, label_part, shown_in};
 
 use rules::{
-    Answer, GatheredVersion, Holding, Labelled, LiveVersion, Mode, Offered, Settings, State,
-    Tables, Tuned,
+    Answer, GatheredVersion, Holding, Labelled, LiveVersion, Mode, Offered, Refusal, Settings,
+    State, Tables, Tuned,
 };
 
+#[tactic(auto, unfolding(crate::specs::Coded::holding_from))]
 fn holding_from(b: &[u8], at: u8) -> Holding
     ensures { result ≡ holding_from b.now at }
 {
     let first = at as usize;
-    let live = LiveVersion {
-        present: fields::byte(b, first),
-        version: fields::byte(b, first + 1),
-        last: fields::byte(b, first + 2),
-    };
-    let gathered = GatheredVersion {
-        present: fields::byte(b, first + 3),
-        version: fields::byte(b, first + 4),
-        last: fields::byte(b, first + 5),
-        held: fields::byte(b, first + 6),
-    };
     Holding {
-        live,
-        gathered,
+        live: LiveVersion {
+            present: fields::byte(b, first),
+            version: fields::byte(b, first + 1),
+            last: fields::byte(b, first + 2),
+        },
+        gathered: GatheredVersion {
+            present: fields::byte(b, first + 3),
+            version: fields::byte(b, first + 4),
+            last: fields::byte(b, first + 5),
+            held: fields::byte(b, first + 6),
+        },
         half: fields::byte(b, first + 7),
     }
 }
 
+#[tactic(auto, unfolding(crate::specs::Coded::language_from))]
 fn language_from(b: &[u8], at: u8) -> [u8; 3]
     ensures { result ≡ language_from b.now at }
 {
-    let first = fields::byte(b, at as usize);
-    let second = fields::byte(b, at as usize + 1);
-    let third = fields::byte(b, at as usize + 2);
-    [first, second, third]
+    let first = at as usize;
+    [
+        fields::byte(b, first),
+        fields::byte(b, first + 1),
+        fields::byte(b, first + 2),
+    ]
 }
 
+#[tactic(auto, unfolding(crate::specs::Coded::state_from))]
 fn state_from(b: &[u8]) -> State
     ensures { result ≡ state_from b.now }
 {
-    let low = fields::byte(b, 0);
-    let high = fields::byte(b, 1);
-    let language = language_from(b, 42);
-    let settings = Settings {
-        map: low as u16 + high as u16 * 256,
-        language,
-    };
-    let tables = Tables {
-        cds: holding_from(b, 2),
-        mms: holding_from(b, 10),
-        vcm: holding_from(b, 18),
-        dcm: holding_from(b, 26),
-        ntt: holding_from(b, 34),
-    };
-    State { tables, settings }
+    State {
+        tables: Tables {
+            cds: holding_from(b, 2),
+            mms: holding_from(b, 10),
+            vcm: holding_from(b, 18),
+            dcm: holding_from(b, 26),
+            ntt: holding_from(b, 34),
+        },
+        settings: Settings {
+            map: u16::from_le_bytes([fields::byte(b, 0), fields::byte(b, 1)]),
+            language: language_from(b, 42),
+        },
+    }
 }
 
+#[tactic(auto, unfolding(crate::specs::Coded::holding_number))]
 fn holding_number(h: Holding) -> u64
     ensures { result ≡ holding_number h }
 {
-    h.live.present as u64
-        + h.live.version as u64 * 0x100
-        + h.live.last as u64 * 0x10000
-        + h.gathered.present as u64 * 0x1000000
-        + h.gathered.version as u64 * 0x100000000
-        + h.gathered.last as u64 * 0x10000000000
-        + h.gathered.held as u64 * 0x1000000000000
-        + h.half as u64 * 0x100000000000000
+    u64::from_le_bytes([
+        h.live.present,
+        h.live.version,
+        h.live.last,
+        h.gathered.present,
+        h.gathered.version,
+        h.gathered.last,
+        h.gathered.held,
+        h.half,
+    ])
 }
 
+#[tactic(auto, unfolding(crate::specs::Coded::language_number))]
 fn language_number(l: &[u8]) -> u64
     ensures { result ≡ language_number l.now }
 {
-    let first = fields::byte(l, 0);
-    let second = fields::byte(l, 1);
-    let third = fields::byte(l, 2);
-    first as u64 + second as u64 * 0x100 + third as u64 * 0x10000
+    u32::from_le_bytes([
+        fields::byte(l, 0),
+        fields::byte(l, 1),
+        fields::byte(l, 2),
+        0,
+    ]) as u64
 }
 
-fn names_part(s: State, part: u32) -> u64
-    ensures { result ≡ names_part s part }
-{
-    if part == 5 {
-        return holding_number(s.tables.ntt);
-    }
-    if part == 6 {
-        let language = s.settings.language;
-        return language_number(&language);
-    }
-    0
-}
-
+#[tactic(auto, unfolding(crate::specs::Coded::state_part))]
 fn state_part(s: State, part: u32) -> u64
     ensures { result ≡ state_part s part }
 {
@@ -112,30 +108,37 @@ fn state_part(s: State, part: u32) -> u64
         2 => holding_number(s.tables.mms),
         3 => holding_number(s.tables.vcm),
         4 => holding_number(s.tables.dcm),
-        _ => names_part(s, part),
+        5 => holding_number(s.tables.ntt),
+        6 => language_number(&s.settings.language),
+        _ => 0,
     }
 }
 
-fn answer_number(a: Answer) -> u64
-    ensures { result ≡ answer_number a }
+#[tactic(auto, unfolding(crate::specs::Coded::answer_number))]
+fn answer_number(a: Result<Answer, Refusal>) -> u64
+    ensures { result ≡ answer_number (by_number a) }
 {
     match a {
-        Answer::Refused(n) => n as u64 * 256,
-        Answer::OtherMap => 1,
-        Answer::Repeat => 2,
-        Answer::Stored(missing) => 3 + missing as u64 * 256,
-        Answer::Live(version) => 4 + version as u64 * 256,
+        Ok(Answer::OtherMap) => 1,
+        Ok(Answer::Repeat) => 2,
+        Ok(Answer::Stored(missing)) => 3 + missing as u64 * 256,
+        Ok(Answer::Live(version)) => 4 + version as u64 * 256,
+        Err(refusal) => refusal.number() as u64 * 256,
     }
 }
 
-fn offered_part(o: Offered, part: u32) -> u64
-    ensures { result ≡ offered_part o part }
+// Of an offer to a state, which a refusal leaves as it was.
+#[tactic(auto, unfolding(crate::specs::Coded::offered_part))]
+fn offered_part(given: State, offered: Result<Offered, Refusal>, part: u32) -> u64
+    ensures { result ≡ offered_part (outcome given offered) part }
 {
+    let (answer, state) = match offered {
+        Ok(o) => (Ok(o.answer), o.state),
+        Err(refusal) => (Err(refusal), given),
+    };
     if part == 7 {
-        let answer = o.answer;
         return answer_number(answer);
     }
-    let state = o.state;
     state_part(state, part)
 }
 
@@ -144,8 +147,7 @@ fn offered_part(o: Offered, part: u32) -> u64
 pub extern "C" fn trial_start(map: u16, language: &[u8], part: u32) -> u64
     ensures { result ≡ state_part (fresh map (language_from language.now 0)) part }
 {
-    let three = language_from(language, 0);
-    let state = receiver::start(map, three);
+    let state = receiver::start(map, language_from(language, 0));
     state_part(state, part)
 }
 
@@ -157,44 +159,45 @@ pub extern "C" fn trial_offer(state: &[u8], store: &mut [u8], section: &[u8], pa
 {
     let given = state_from(state);
     let offered = receiver::offer(given, store, section);
-    offered_part(offered, part)
+    offered_part(given, offered, part)
 }
 
 // ---- tuning
 
+#[tactic(auto, unfolding(crate::specs::Coded::head_number))]
 fn head_number(kind: u8, hidden: u8, path: u8, khz: u32) -> u64
     ensures { result ≡ head_number kind hidden path khz }
 {
     kind as u64 + hidden as u64 * 0x100 + path as u64 * 0x10000 + khz as u64 * 0x100000000
 }
 
-fn tuned_head(t: Tuned) -> u64
-    ensures { result ≡ tuned_head t }
+#[tactic(auto, unfolding(crate::specs::Coded::tuned_head))]
+fn tuned_head(t: Result<Tuned, Refusal>) -> u64
+    ensures { result ≡ tuned_head (by_number t) }
 {
     match t {
-        Tuned::Refused(n) => head_number(0, n, 0, 0),
-        Tuned::Digital {
-            hidden,
-            path,
-            khz,
-            program: _,
-            mode: _,
-        } => head_number(1, hidden, path, khz),
-        Tuned::Analogue {
-            hidden,
-            path,
-            khz,
-            standard: _,
-            scrambled: _,
-        } => head_number(2, hidden, path, khz),
-        Tuned::Application {
-            hidden,
-            path,
-            number: _,
-        } => head_number(3, hidden, path, 0),
+        Ok(
+            Tuned::Digital {
+                hidden,
+                path,
+                khz,
+                ..
+            },
+        ) => head_number(1, hidden, path, khz),
+        Ok(
+            Tuned::Analogue {
+                hidden,
+                path,
+                khz,
+                ..
+            },
+        ) => head_number(2, hidden, path, khz),
+        Ok(Tuned::Application { hidden, path, .. }) => head_number(3, hidden, path, 0),
+        Err(refusal) => head_number(0, refusal.number(), 0, 0),
     }
 }
 
+#[tactic(auto, unfolding(crate::specs::Coded::digital_number))]
 fn digital_number(program: u16, m: Mode) -> u64
     ensures { result ≡ digital_number program m }
 {
@@ -205,62 +208,37 @@ fn digital_number(program: u16, m: Mode) -> u64
         + m.format as u64 * 0x10000000000
 }
 
-fn tuned_rest(t: Tuned) -> u64
-    ensures { result ≡ tuned_rest t }
+#[tactic(auto, unfolding(crate::specs::Coded::tuned_rest))]
+fn tuned_rest(t: Result<Tuned, Refusal>) -> u64
+    ensures { result ≡ tuned_rest (by_number t) }
 {
     match t {
-        Tuned::Refused(_) => 0,
-        Tuned::Digital {
-            hidden: _,
-            path: _,
-            khz: _,
-            program,
-            mode,
-        } => digital_number(program, mode),
-        Tuned::Analogue {
-            hidden: _,
-            path: _,
-            khz: _,
-            standard,
-            scrambled,
-        } => standard as u64 + scrambled as u64 * 0x100,
-        Tuned::Application {
-            hidden: _,
-            path: _,
-            number,
-        } => number as u64,
+        Ok(Tuned::Digital { program, mode, .. }) => digital_number(program, mode),
+        Ok(
+            Tuned::Analogue {
+                standard,
+                scrambled,
+                ..
+            },
+        ) => standard as u64 + scrambled as u64 * 0x100,
+        Ok(Tuned::Application { number, .. }) => number as u64,
+        Err(_) => 0,
     }
 }
 
-fn tuned_symbols(t: Tuned) -> u64
-    ensures { result ≡ tuned_symbols t }
+#[tactic(auto, unfolding(crate::specs::Coded::tuned_symbols))]
+fn tuned_symbols(t: Result<Tuned, Refusal>) -> u64
+    ensures { result ≡ tuned_symbols (by_number t) }
 {
     match t {
-        Tuned::Refused(_) => 0,
-        Tuned::Digital {
-            hidden: _,
-            path: _,
-            khz: _,
-            program: _,
-            mode,
-        } => mode.symbols as u64,
-        Tuned::Analogue {
-            hidden: _,
-            path: _,
-            khz: _,
-            standard: _,
-            scrambled: _,
-        } => 0,
-        Tuned::Application {
-            hidden: _,
-            path: _,
-            number: _,
-        } => 0,
+        Ok(Tuned::Digital { mode, .. }) => mode.symbols as u64,
+        Ok(Tuned::Analogue { .. } | Tuned::Application { .. }) | Err(_) => 0,
     }
 }
 
-fn tuned_part(t: Tuned, part: u32) -> u64
-    ensures { result ≡ tuned_part t part }
+#[tactic(auto, unfolding(crate::specs::Coded::tuned_part))]
+fn tuned_part(t: Result<Tuned, Refusal>, part: u32) -> u64
+    ensures { result ≡ tuned_part (by_number t) part }
 {
     match part {
         0 => tuned_head(t),
@@ -276,7 +254,10 @@ pub extern "C" fn trial_check(state: &[u8], store: &[u8]) -> u8
     ensures { result ≡ checks (state_from state.now) store.now }
 {
     let given = state_from(state);
-    tuner::check(given, store)
+    match tuner::check(given, store) {
+        Ok(()) => 0,
+        Err(refusal) => refusal.number(),
+    }
 }
 
 // Asks a channel of a state of 45 bytes with a store, and gives a part of the answer.
@@ -291,38 +272,40 @@ pub extern "C" fn trial_tune(state: &[u8], store: &[u8], channel: u16, part: u32
 
 // ---- labels
 
-fn label_kind(l: Labelled) -> u64
-    ensures { result ≡ label_kind l }
+#[tactic(auto, unfolding(crate::specs::Coded::label_kind))]
+fn label_kind(l: Result<Labelled, Refusal>) -> u64
+    ensures { result ≡ label_kind (by_number l) }
 {
     match l {
-        Labelled::Refused(n) => n as u64 * 256,
-        Labelled::Named { start: _, size: _ } => 1,
-        Labelled::Fallback => 2,
+        Ok(Labelled::Named { .. }) => 1,
+        Ok(Labelled::Fallback) => 2,
+        Err(refusal) => refusal.number() as u64 * 256,
     }
 }
 
-fn label_start(l: Labelled) -> u64
-    ensures { result ≡ label_start l }
+#[tactic(auto, unfolding(crate::specs::Coded::label_start))]
+fn label_start(l: Result<Labelled, Refusal>) -> u64
+    ensures { result ≡ label_start (by_number l) }
 {
     match l {
-        Labelled::Refused(_) => 0,
-        Labelled::Named { start, size: _ } => start as u64,
-        Labelled::Fallback => 0,
+        Ok(Labelled::Named { start, .. }) => start as u64,
+        Ok(Labelled::Fallback) | Err(_) => 0,
     }
 }
 
-fn label_size(l: Labelled) -> u64
-    ensures { result ≡ label_size l }
+#[tactic(auto, unfolding(crate::specs::Coded::label_size))]
+fn label_size(l: Result<Labelled, Refusal>) -> u64
+    ensures { result ≡ label_size (by_number l) }
 {
     match l {
-        Labelled::Refused(_) => 0,
-        Labelled::Named { start: _, size } => size as u64,
-        Labelled::Fallback => 0,
+        Ok(Labelled::Named { size, .. }) => size as u64,
+        Ok(Labelled::Fallback) | Err(_) => 0,
     }
 }
 
-fn label_part(l: Labelled, part: u32) -> u64
-    ensures { result ≡ label_part l part }
+#[tactic(auto, unfolding(crate::specs::Coded::label_part))]
+fn label_part(l: Result<Labelled, Refusal>, part: u32) -> u64
+    ensures { result ≡ label_part (by_number l) part }
 {
     match part {
         0 => label_kind(l),
@@ -343,6 +326,7 @@ pub extern "C" fn trial_label(state: &[u8], store: &[u8], channel: u16, part: u3
 }
 
 // The length of the label itself, and its bytes at the front of `out`, where there is room for them.
+#[tactic(auto, unfolding(crate::specs::Coded::shown_in))]
 #[unsafe(no_mangle)]
 pub extern "C" fn trial_shown<'a>(
     state: &[u8],

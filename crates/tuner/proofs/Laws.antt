@@ -1,30 +1,30 @@
 -- What the checks leave, and each stage of a look-up as the rule has it.
-use Prim.Native.Nat.{ℕ, ◌<◌, ◌≤◌}
+use Prim.Native.Nat.{ℕ, ◌<◌, ◌≤◌, ◌-◌}
 use native.Mathlib.Omega.{arith}
 use mathlib.Core.Path.{◌≡◌, refl, sym, ap, ◌∙◌}
-use mathlib.Core.Bool.{Bool, true, false, cond, not}
+use mathlib.Core.Bool.{Bool, true, false, cond}
 use mathlib.Core.List.{List}
+use mathlib.Core.Option.{Option, none, some}
+use mathlib.Core.Logic.{◌⊎◌, inl, inr}
 use lib.{ListN.length, Dec.leb}
-use borrow.Author.Tests.{le-leb, lt-leb, leb-true, ne_eqb, not-true}
-use Rattle.rules.specs.Holding.{limit_of, listed, store_size, holding_of, well_formed}
-use Rattle.rules.specs.{Search.first, declared.Table.Table, declared.State.State, declared.Tuned.Tuned}
-use Rattle.rules.specs.Tuning.{live_records, needed_tables, table_live, all_live, table_reads, all_read, plant, needs, look_up, tune}
-use Rattle.rules.proofs.{Taken.differ, States.table_formed, States.each_at, States.each-no}
+use borrow.Author.Tests.{le-leb, lt-leb, leb-true, leb-false, lt-ltb}
+use Rattle.std.specs.Prelude as std
+use Rattle.rules.specs.Refusals.{OrRefused, wrong, right, number}
+use Rattle.rules.specs.Holding.{limit_of, listed, store_size, well_formed}
+use Rattle.rules.specs.{Layout.Numbered, Tables.carrier_khz, Search.first}
+use Rattle.rules.specs.{declared.Carriers.Carriers, declared.Mode.Mode, declared.Channel.Channel, declared.Signal.Signal}
+use Rattle.rules.specs.declared.Refusal.{Refusal}
+use Rattle.rules.specs.{declared.Table.Table, declared.State.State, declared.Tuned.Tuned}
+use Rattle.rules.specs.Tuning.{Plant, live_records, needed_tables, all_live, table_reads, all_read, plant, is_carrier, is_mode, is_channel}
+use Rattle.rules.specs.Tuning.{defined_by, defined, needs, found, hidden, tune_signal, tune_khz, tune_carrier, tune_channel, look_up, tune}
+use Rattle.rules.specs.declared.Table.TheVariants.{Cds, Mms, Vcm, Dcm}
+use Rattle.rules.proofs.{Taken.differ, Refusals.same-number, States.table_formed, States.each_at}
 use Rattle.search.specs.Entries.{Live, records_of, test_of, entry_of, record_named}
+use Rattle.search.specs.Found.{carrier_found, mode_found, channel_found}
 use Rattle.search.proofs.Named.{entry-names}
-use Rattle.tuner.specs.Checks.{checks}
+use Rattle.tuner.specs.Checks.{checks, checked_as}
 
 -- ---- what the checks leave
-
--- a table that was found not to be live, or not to read right
-pub one-not-live : (s : State) (t : Table) → listed needed_tables t ≡ true → ((holding_of s t).live.present ≡ 1 → ⊥) → false ≡ all_live s
-unfolding all_live table_live
-one-not-live s t h ne = sym (each-no needed_tables (table_live s) t h (ne_eqb (holding_of s t).live.present 1 ne))
-
-pub one-unread : (s : State) (store : List ℕ) (t : Table) → listed needed_tables t ≡ true → {b : Bool} → b ≡ table_reads s store t → not b ≡ true
-    → false ≡ all_read s store
-unfolding all_read
-one-unread s store t h {b} e n = sym (each-no needed_tables (table_reads s store) t h (sym e ∙ not-true b n))
 
 pub record Passed (s : State) (store : List ℕ) : Type 0 where
   pub roomy : store_size (limit_of s) ≤ length store
@@ -52,104 +52,158 @@ searchable s store e t h =
     record { formed = table_formed s t (passed s store e).good; reads = each_at needed_tables (table_reads s store) (passed s store e).reads t h }
 
 -- the entry of a number names what the plant has under it
-pub found-by : (s : State) (store : List ℕ) → checks s store ≡ 0 → (t : Table) → listed needed_tables t ≡ true → {entry : ℕ} (x : ℕ)
-    → entry ≡ entry_of s store t x → record_named t store entry ≡ first (test_of t x) (live_records (records_of t) s store t)
-found-by s store e t h x n = ap (record_named t store) n ∙ entry-names s store t (searchable s store e t h) x
+module _ (s : State) (store : List ℕ) (e : checks s store ≡ 0) {entry : ℕ} (x : ℕ) where
+  found-by : (t : Table) → listed needed_tables t ≡ true → entry ≡ entry_of s store t x
+      → record_named t store entry ≡ first (test_of t x) (live_records (records_of t) s store t)
+  found-by t h n = ap (record_named t store) n ∙ entry-names s store t (searchable s store e t h) x
 
--- ---- the checks, one by one
+  pub range_by : entry ≡ entry_of s store Dcm x → {r : Bool} → r ≡ defined_by (record_named Dcm store entry) → r ≡ defined (plant s store).ranges x
+  unfolding plant defined
+  range_by n q = q ∙ ap defined_by (found-by Dcm refl n)
 
-module _ (s : State) (store : List ℕ) where
-  pub check-1 : length store < store_size (limit_of s) → 1 ≡ checks s store
-  unfolding checks
-  check-1 h = simp (lt-leb (store_size (limit_of s)) (length store) h)
+  pub channel_by : entry ≡ entry_of s store Vcm x → {r : std.Option Channel} → r ≡ channel_found (record_named Vcm store entry)
+      → r ≡ channel_found (first (is_channel x) (plant s store).channels)
+  unfolding plant
+  channel_by n q = q ∙ ap channel_found (found-by Vcm refl n)
 
-  module _ (roomy : store_size (limit_of s) ≤ length store) where
-    pub check-2 : well_formed s ≡ false → 2 ≡ checks s store
-    unfolding checks
-    check-2 e = simp (le-leb (store_size (limit_of s)) (length store) roomy, e)
+  pub carrier_by : entry ≡ entry_of s store Cds x → {r : std.Option ℕ} → r ≡ carrier_found x (record_named Cds store entry)
+      → r ≡ carrier_found x (first (is_carrier x) (plant s store).carriers)
+  unfolding plant
+  carrier_by n q = q ∙ ap (carrier_found x) (found-by Cds refl n)
 
-    module _ (good : well_formed s ≡ true) where
-      pub check-15 : all_live s ≡ false → 15 ≡ checks s store
-      unfolding checks
-      check-15 e = simp (le-leb (store_size (limit_of s)) (length store) roomy, good, e)
+  pub mode_by : entry ≡ entry_of s store Mms x → {r : std.Option Mode} → r ≡ mode_found (record_named Mms store entry)
+      → r ≡ mode_found (first (is_mode x) (plant s store).modes)
+  unfolding plant
+  mode_by n q = q ∙ ap mode_found (found-by Mms refl n)
 
-      module _ (live : all_live s ≡ true) where
-        pub check-16 : all_read s store ≡ false → 16 ≡ checks s store
-        unfolding checks
-        check-16 e = simp (le-leb (store_size (limit_of s)) (length store) roomy, good, live, e)
+-- ---- the stages of a look-up: what a search answers, none or a record, decides each
 
-        pub check-none : all_read s store ≡ true → 0 ≡ checks s store
-        unfolding checks
-        check-none e = simp (le-leb (store_size (limit_of s)) (length store) roomy, good, live, e)
+abbrev answered : {K : Type 0} → std.Option K → ℕ → (K → OrRefused Tuned) → OrRefused Tuned
+answered std.None n f = wrong n
+answered (std.Some k) n f = f k
+
+mode-found : (o : Option (Numbered Mode)) (n : ℕ) (f : Mode → OrRefused Tuned) → found o n (λ e. f e.what) ≡ answered (mode_found o) n f
+unfolding found mode_found
+mode-found none n f = refl
+mode-found (some e) n f = refl
+
+carrier-found : (index : ℕ) (o : Option (Numbered Carriers)) (n : ℕ) (f : ℕ → OrRefused Tuned)
+    → found o n (λ e. f (carrier_khz e.what (index - e.index))) ≡ answered (carrier_found index o) n f
+unfolding found carrier_found
+carrier-found index none n f = refl
+carrier-found index (some e) n f = refl
+
+channel-found : (o : Option (Numbered Channel)) (n : ℕ) (f : Channel → OrRefused Tuned) → found o n (λ e. f e.what) ≡ answered (channel_found o) n f
+unfolding found channel_found
+channel-found none n f = refl
+channel-found (some e) n f = refl
+
+pub digital : (p : Plant) (c : Channel) (khz program mode : ℕ) (r : std.Option Mode) → r ≡ mode_found (first (is_mode mode) p.modes) → (mode ≡ 0 → ⊥)
+    → answered r 21 (λ m. right (Tuned.Digital (hidden c) c.path khz program m)) ≡ tune_signal p c khz (Signal.Digital program mode)
+unfolding tune_signal needs
+digital p c khz program mode r e ne =
+    rw (lt-ltb 0 mode (omega arith), e) (sym (mode-found (first (is_mode mode) p.modes) 21
+    (λ m. right (Tuned.Digital (hidden c) c.path khz program m))))
+
+pub carrier : (p : Plant) (c : Channel) (r : std.Option ℕ) → r ≡ carrier_found c.carrier (first (is_carrier c.carrier) p.carriers)
+    → (c.carrier ≡ 0 → ⊥) → answered r 19 (tune_khz p c) ≡ tune_carrier p c
+unfolding tune_carrier needs
+carrier p c r e ne =
+    rw (lt-ltb 0 c.carrier (omega arith), e) (sym (carrier-found c.carrier (first (is_carrier c.carrier) p.carriers) 19 (tune_khz p c)))
+
+pub channel : (p : Plant) (number : ℕ) (r : std.Option Channel) → r ≡ channel_found (first (is_channel number) p.channels)
+    → defined p.ranges number ≡ true → answered r 18 (tune_channel p) ≡ look_up p number
+unfolding look_up needs
+channel p number r e d = rw (d, e) (sym (channel-found (first (is_channel number) p.channels) 18 (tune_channel p)))
 
 -- ---- tuning is the checks and the look-up
 
-module _ (s : State) (store : List ℕ) (number : ℕ) where
-  pub too-high : checks s store ≡ 0 → 4095 < number → Tuned.Refused 14 ≡ tune s store number
+module _ (s : State) (store : List ℕ) (number : ℕ) (e : checks s store ≡ 0) where
+  pub too-high : 4095 < number → wrong 14 ≡ tune s store number
   unfolding tune needs
-  too-high e h = let p = passed s store e in simp (le-leb (store_size (limit_of s)) (length store) p.roomy, p.good, lt-leb number 4095 h)
+  too-high h = let p = passed s store e in simp (le-leb (store_size (limit_of s)) (length store) p.roomy, p.good, lt-leb number 4095 h)
 
-  pub looked_up : checks s store ≡ 0 → number ≤ 4095 → look_up (plant s store) number ≡ tune s store number
+  pub looked_up : number ≤ 4095 → look_up (plant s store) number ≡ tune s store number
   unfolding tune needs
-  looked_up e h = let p = passed s store e in simp (le-leb (store_size (limit_of s)) (length store) p.roomy, p.good, le-leb number 4095 h, p.live, p.reads)
+  looked_up h =
+      let p = passed s store e in
+      simp (le-leb (store_size (limit_of s)) (length store) p.roomy, p.good, le-leb number 4095 h, p.live, p.reads)
+
+-- ---- a refusal of the checks
+
+-- `checks`, told by what it tests
+abbrev pub Check : (roomy good live reads : Bool) → ℕ
+Check roomy good live reads = cond roomy (cond good (cond live (cond reads 0 16) 15) 2) 1
 
 -- where a check is not passed: 14 has its place between 2 and 15. Of every question that asks so, tuning or another
-module _ {A : Type 0} (refuse : ℕ → A) (ask : Bool → ℕ → A → A) (yes : (n : ℕ) (t : A) → ask true n t ≡ t) (no : (n : ℕ) (t : A) → ask false n t ≡ refuse n)
-    (t : A) (n : ℕ) where
-  abbrev Check : (roomy good live reads : Bool) → ℕ
-  Check roomy good live reads = cond roomy (cond good (cond live (cond reads 0 16) 15) 2) 1
-
-  abbrev Ask : (roomy good low live reads : Bool) → A
+module _ {A : Type 0} (ask : Bool → ℕ → OrRefused A → OrRefused A) (yes : (n : ℕ) (t : OrRefused A) → ask true n t ≡ t)
+    (no : (n : ℕ) (t : OrRefused A) → ask false n t ≡ wrong n) (t : OrRefused A) (k : ℕ) where
+  abbrev Ask : (roomy good low live reads : Bool) → OrRefused A
   Ask roomy good low live reads = ask roomy 1 (ask good 2 (ask low 14 (ask live 15 (ask reads 16 t))))
 
-  pub early : (roomy good low live reads : Bool) → n ≡ Check roomy good live reads → (n ≡ 0 → ⊥) → n < 14 → refuse n ≡ Ask roomy good low live reads
-  early false good low live reads e ne h = ap refuse e ∙ sym (no 1 _)
-  early true false low live reads e ne h = ap refuse e ∙ sym (yes 1 _ ∙ no 2 _)
-  early true true low false reads e ne h = absurd (omega arith)
-  early true true low true false e ne h = absurd (omega arith)
-  early true true low true true e ne h = absurd (ne e)
-
-  pub high : (roomy good low live reads : Bool) → n ≡ Check roomy good live reads → 14 ≤ n → low ≡ false → refuse 14 ≡ Ask roomy good low live reads
-  high false good low live reads e h f = absurd (omega arith)
-  high true false low live reads e h f = absurd (omega arith)
+  pub high : (roomy good low live reads : Bool) → wrong k ≡ checked_as (Check roomy good live reads) → 14 < k → low ≡ false
+      → wrong 14 ≡ Ask roomy good low live reads
+  high false good low live reads e h f = let z : k ≡ 1 = cc in absurd (omega arith)
+  high true false low live reads e h f = let z : k ≡ 2 = cc in absurd (omega arith)
   high true true true live reads e h f = absurd (differ f)
   high true true false live reads e h f = sym (yes 1 _ ∙ yes 2 _ ∙ no 14 _)
 
-  pub late : (roomy good low live reads : Bool) → n ≡ Check roomy good live reads → (n ≡ 0 → ⊥) → 14 ≤ n → low ≡ true
-      → refuse n ≡ Ask roomy good low live reads
-  late false good low live reads e ne h f = absurd (omega arith)
-  late true false low live reads e ne h f = absurd (omega arith)
-  late true true false live reads e ne h f = absurd (differ (sym f))
-  late true true true false reads e ne h f = ap refuse e ∙ sym (yes 1 _ ∙ yes 2 _ ∙ yes 14 _ ∙ no 15 _)
-  late true true true true false e ne h f = ap refuse e ∙ sym (yes 1 _ ∙ yes 2 _ ∙ yes 14 _ ∙ yes 15 _ ∙ no 16 _)
-  late true true true true true e ne h f = absurd (ne e)
+  pub other : (roomy good low live reads : Bool) → wrong k ≡ checked_as (Check roomy good live reads)
+      → (low ≡ false → (k ≡ 15) ⊎ (k ≡ 16) → ⊥) → wrong k ≡ Ask roomy good low live reads
+  other false good low live reads e f = let z : k ≡ 1 = cc in ap wrong z ∙ sym (no 1 _)
+  other true false low live reads e f = let z : k ≡ 2 = cc in ap wrong z ∙ sym (yes 1 _ ∙ no 2 _)
+  other true true false false reads e f = let z : k ≡ 15 = cc in absurd (f refl (inl z))
+  other true true false true false e f = let z : k ≡ 16 = cc in absurd (f refl (inr z))
+  other true true true false reads e f = let z : k ≡ 15 = cc in ap wrong z ∙ sym (yes 1 _ ∙ yes 2 _ ∙ yes 14 _ ∙ no 15 _)
+  other true true true true false e f = let z : k ≡ 16 = cc in ap wrong z ∙ sym (yes 1 _ ∙ yes 2 _ ∙ yes 14 _ ∙ yes 15 _ ∙ no 16 _)
+  other true true low true true e f = let z : ◌≡◌ {A = ℕ} 0 1 = cc in absurd (omega arith)
 
-needed : (n : ℕ) (t : Tuned) → needs true n t ≡ t
+-- 15 and 16, as the code names them
+abbrev pub Late : Refusal → Type 0
+Late r = (r ≡ Refusal.NotLive) ⊎ (r ≡ Refusal.Unreadable)
+
+pub late : {r : Refusal} → Late r → 14 < number r
+late (inl e) = rw e (omega arith)
+late (inr e) = rw e (omega arith)
+
+so-late : (r : Refusal) → (number r ≡ 15) ⊎ (number r ≡ 16) → Late r
+so-late r (inl e) = inl (same-number r Refusal.NotLive e)
+so-late r (inr e) = inr (same-number r Refusal.Unreadable e)
+
+-- no channel number above 4095 comes so far
+pub not-late : (n : ℕ) (r : Refusal) → (r ≡ Refusal.NotLive → n ≤ 4095) → (r ≡ Refusal.Unreadable → n ≤ 4095) → leb n 4095 ≡ false
+    → (number r ≡ 15) ⊎ (number r ≡ 16) → ⊥
+not-late n r f g h q = elim (so-late r q) [ inl a ↦ omega (arith, leb-false n 4095 h, f a) | inr b ↦ omega (arith, leb-false n 4095 h, g b) ]
+
+needed : (n : ℕ) (t : OrRefused Tuned) → needs true n t ≡ t
 unfolding needs
 needed n t = refl
 
-not-needed : (n : ℕ) (t : Tuned) → needs false n t ≡ Tuned.Refused n
+not-needed : (n : ℕ) (t : OrRefused Tuned) → needs false n t ≡ wrong n
 unfolding needs
 not-needed n t = refl
 
-module _ (s : State) (store : List ℕ) (number n : ℕ) (e : n ≡ checks s store) where
-  pub refused-early : (n ≡ 0 → ⊥) → n < 14 → Tuned.Refused n ≡ tune s store number
-  unfolding checks tune
-  refused-early ne h =
-      early Tuned.Refused needs needed not-needed (look_up (plant s store) number) n
-      (leb (store_size (limit_of s)) (length store)) (well_formed s) (leb number 4095) (all_live s)
-      (all_read s store) e ne h
-
-  pub refused-high : 14 ≤ n → 4095 < number → Tuned.Refused 14 ≡ tune s store number
+module _ (s : State) (store : List ℕ) (number k : ℕ) (e : wrong k ≡ checked_as (checks s store)) where
+  pub refused-high : 14 < k → 4095 < number → wrong 14 ≡ tune s store number
   unfolding checks tune
   refused-high h f =
-      high Tuned.Refused needs needed not-needed (look_up (plant s store) number) n
+      high needs needed not-needed (look_up (plant s store) number) k
       (leb (store_size (limit_of s)) (length store)) (well_formed s) (leb number 4095) (all_live s) (all_read s store) e h
       (lt-leb number 4095 f)
 
-  pub refused-late : (n ≡ 0 → ⊥) → 14 ≤ n → number ≤ 4095 → Tuned.Refused n ≡ tune s store number
+  ruled : (leb number 4095 ≡ false → (k ≡ 15) ⊎ (k ≡ 16) → ⊥) → wrong k ≡ tune s store number
   unfolding checks tune
-  refused-late ne h f =
-      late Tuned.Refused needs needed not-needed (look_up (plant s store) number) n
-      (leb (store_size (limit_of s)) (length store)) (well_formed s) (leb number 4095) (all_live s) (all_read s store) e ne h
-      (le-leb number 4095 f)
+  ruled =
+      other needs needed not-needed (look_up (plant s store) number) k
+      (leb (store_size (limit_of s)) (length store)) (well_formed s) (leb number 4095) (all_live s) (all_read s store) e
+
+  pub refused-as : (4095 < number → k ≤ 14) → wrong k ≡ tune s store number
+  refused-as h = ruled (λ f q. omega (arith, h (leb-false number 4095 f), q))
+
+-- by name
+module _ (s : State) (store : List ℕ) (n : ℕ) {r : Refusal} (e : wrong (number r) ≡ checked_as (checks s store)) where
+  pub refused_high : Late r → 4095 < n → wrong 14 ≡ tune s store n
+  refused_high h f = refused-high s store n (number r) e (late h) f
+
+  pub refused_as : (r ≡ Refusal.NotLive → n ≤ 4095) → (r ≡ Refusal.Unreadable → n ≤ 4095) → wrong (number r) ≡ tune s store n
+  refused_as f g = ruled s store n (number r) e (not-late n r f g)

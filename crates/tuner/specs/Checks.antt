@@ -1,9 +1,10 @@
 -- The checks of tuning that no channel number changes, and the listings that are lent with the question.
-use Rattle.std.specs.Prelude.{ℕ}
+use Rattle.std.specs.Prelude.{ℕ, zero, suc}
 use mathlib.Core.{Bool.cond, List.List}
 use lib.{ListN.length, Dec.leb}
 use Rattle.rules.specs.{Holding.limit_of, Holding.store_size, Holding.well_formed, Tuning.all_live, Tuning.all_read, Tuning.hidden}
 use Rattle.rules.specs.{declared.Channel.Channel, declared.Tuned.Tuned, declared.State.State}
+use Rattle.rules.specs.Refusals.{OrRefused, wrong, right}
 use Rattle.rules.specs.declared.Table.TheVariants.{Cds, Mms, Vcm, Dcm}
 use Rattle.search.specs.Listing.{Lists}
 
@@ -14,6 +15,11 @@ checks s store =
     (cond (well_formed s)
     (cond (all_live s)
     (cond (all_read s store) 0 16) 15) 2) 1
+
+-- what the code answers: the refusal of that number, or no refusal
+abbrev pub checked_as : ℕ → OrRefused Unit
+checked_as zero = right tt
+checked_as (suc n) = wrong (suc n)
 
 -- listings of the four tables: the ranges and records of channels, the carriers and modes of indices
 pub record AllListed (s : State) (store ranges channels carriers modes : List ℕ) : Type 0 where

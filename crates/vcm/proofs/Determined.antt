@@ -7,6 +7,8 @@ use types.Logic.{Logic}
 use prog.Memory.{Memory}
 use prog.Routine.{Routine}
 use Rattle.rules.proofs.Determined.{Determined, determined-by, determined-once}
+use mathlib.Core.Path.{sym, ◌∙◌}
+use Rattle.rules.proofs.Refusals.{by_number-once}
 use Rattle.fields.proofs.Laws.{stands-once}
 use Rattle.vcm.specs.contracts.outline
 use Rattle.vcm.specs.contracts.number_of
@@ -15,7 +17,9 @@ use Rattle.vcm.specs.contracts.past_channels
 
 module _ {M : Type 1} {𝓤 : Ura M} (𝓛 : Logic 𝓤) (mem : Memory → SProp 𝓤) (run : Routine → Fun 𝓤) where
   pub outline-determined : Determined 𝓤 {T = outline.ended} (outline.clauses 𝓛 mem run) (λ κs r e. r)
-  outline-determined = determined-by 𝓤 {T = outline.ended} (outline.clauses 𝓛 mem run) _ _ (λ κs a g r e. id⊢ 𝓤 _)
+  outline-determined =
+      determined-once 𝓤 {T = outline.ended} (outline.clauses 𝓛 mem run) _ _ (λ κs a g r e. id⊢ 𝓤 _)
+      (λ κs a g r r' e e' s t. by_number-once _ _ (s ∙ sym t))
 
   pub number_of-determined : Determined 𝓤 {T = number_of.ended} (number_of.clauses 𝓛 mem run) (λ κs r e. r)
   number_of-determined = determined-by 𝓤 {T = number_of.ended} (number_of.clauses 𝓛 mem run) _ _ (λ κs a g r e. id⊢ 𝓤 _)

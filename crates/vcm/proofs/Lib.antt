@@ -1,3 +1,1 @@
-pub mod Head
-pub mod Onward
 pub mod Determined

@@ -1,20 +1,18 @@
--- What was folded, with the next eight bytes and the rest of s, makes of a register what s makes of the start.
-use Rattle.std.proofs.Common.{◌∙◌, arith}
-use Rattle.crc.proofs.Folding.{after-starts, after-goes-on}
+-- What was folded, with the rest of s, makes of a register what s makes of the start.
+use Rattle.std.proofs.Common.{ℕ, ◌<◌, ◌∙◌, get_or, arith}
+use Rattle.crc.proofs.Folding.{behind, length-behind, bytes-behind, after-starts, after-goes-on}
 use Rattle.crc.proofs.crc_from.Goals as goal
 
-pub loop-i-init : goal.loop-i-init
-loop-i-init c =
-    let a = c.args in let b = c.type_inv.s in let f = c.four_zeros-e in
-    (omega arith, omega arith, after-starts a.s.now (λ j. omega (arith, b j)) a.start f.result (omega arith) f.ensures (omega arith))
+pub loop-rest-init : goal.loop-rest-init
+loop-rest-init c =
+    let s = c.args.s.now in let f = c.four_zeros-e in
+    let bytes : (j : ℕ) → get_or s j 0 < 256 = λ j. omega (arith, c.type_inv.s j) in
+    (omega arith, bytes, omega arith, after-starts s bytes c.args.start f.result (omega arith) f.ensures (omega arith))
 
-pub loop-i-preserved : goal.loop-i-preserved
-loop-i-preserved c =
-    let s = c.args.s.now in let b = c.type_inv.s in let l = c.loop-i in let f = c.fold-e in (
-      omega arith,
-      f.ensures.small,
-      after-goes-on s (λ j. omega (arith, b j)) l.e f.result l.i (omega arith) f.ensures (omega arith) ∙ l.invariant.2,
-    )
+pub loop-rest-preserved : goal.loop-rest-preserved
+loop-rest-preserved c =
+    let l = c.loop-rest in let s = l.rest.now in let i = l.invariant in let f = c.fold-e.ensures in let h = c.loop-rest-test.true in
+    rw (behind 8 s) (length-behind 8 s h, bytes-behind 8 s i.1, f.small, after-goes-on s i.1 l.e c.fold-e.result i.2 f h ∙ i.3)
 
 pub returns : goal.returns
-returns c = c.crc_rest-2.ensures ∙ rw c.unfolded.ensures c.loop-i.invariant.2
+returns c = c.crc_rest-2.ensures ∙ rw (c.unfolded.ensures, behind 8 c.loop-rest.rest.now) c.loop-rest.invariant.3

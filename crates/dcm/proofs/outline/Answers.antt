@@ -13,12 +13,12 @@ unfolding dcm_head
 returns-then-short c =
     head-no Dcm _ refl 8 (taken-short dcm_head _ _ 7 (omega (arith, too_short _ _ _ c.short.ensures c.if-short.true)))
 
-pub returns-then-head_zeros : goal.returns-then-head_zeros
-unfolding dcm_head
-returns-then-head_zeros c =
-    behind-head _ _ c.head_of-h.result (omega (arith, long-enough _ _ _ c.short.ensures c.if-short.false)) c.word.ensures (cc) (cc)
-
 pub returns : goal.returns
 unfolding dcm_head
 returns c =
+    behind-head _ _ c.head_of-h.result (omega (arith, long-enough _ _ _ c.short.ensures c.if-short.false)) c.word.ensures (cc) (cc)
+
+pub returns-then-not-head_zeros : goal.returns-then-not-head_zeros
+unfolding dcm_head
+returns-then-not-head_zeros c =
     head-no Dcm _ refl 9 (taken-zeros dcm_head _ _ 7 (omega (arith, long-enough _ _ _ c.short.ensures c.if-short.false)) (cc))

@@ -5,31 +5,25 @@ use Rattle.printout.proofs.Laws.{below-0, room-for-one, below_more}
 use Rattle.printout.proofs.listed_lines.Goals as goal
 
 pub loop-number-init : goal.loop-number-init
-loop-number-init c =
-    let a = c.args in (omega arith, refl, below-0 _ _ a.out.now)
+loop-number-init g c = (refl, below-0 _ _ c.args.out.now)
 
 pub add_line-lines-requires : goal.add_line-lines-requires
-add_line-lines-requires c =
+add_line-lines-requires g c =
     let l = c.loop-number.invariant in
-    let p = c.requires in record {
-      store_value = p.store_value;
-      all_listed = p.all_listed;
-      labels_in_bounds = (room-for-one l.2 c.loop-number-test.true (l.1 ∙ p.out_len), l.2.few);
-    }
+    (room-for-one l.1 c.loop-number-test.true (l.0 ∙ c.requires), l.1.few)
 
 pub loop-number-preserved : goal.loop-number-preserved
-loop-number-preserved c =
+loop-number-preserved g c =
     let l = c.loop-number.invariant in (
-      omega (arith, c.loop-number-test.true),
-      c.out-1.given ∙ l.1,
-      below_more l.2 c.add_line-lines.ensures,
+      c.add_line-lines.auto.out ∙ l.0,
+      below_more l.1 c.add_line-lines.ensures,
     )
 
 pub returns : goal.returns
-returns c =
+returns g c =
     let l = c.loop-number in
-    let e : l.number ≡ 4096 = omega (arith, l.invariant.0, c.loop-number-test.false) in
-    rw e at l.invariant.2
+    let e : l.number ≡ 4096 = omega (arith, c.loop-number-test.false, l.auto.number-end) in
+    rw e at l.invariant.1
 
 pub shape_of-out : goal.shape_of-out
-shape_of-out c = c.loop-number.invariant.1
+shape_of-out g c = c.loop-number.invariant.0

@@ -1,33 +1,14 @@
--- All sections so far read right; the first that does not is the answer.
-use native.Mathlib.Omega.{arith}
-use mathlib.Core.Path.{◌≡◌, refl, sym, ap, ◌∙◌}
-use Rattle.rules.specs.{Tuning.live_count, Tuning.every, declared.Holding.Holding}
-use Rattle.state.proofs.Reading.{every_more, reads-fail, reads_all}
+-- A range gives each number below its end, and of the first that does not read right the answer is false.
+use Rattle.std.proofs.Common.{rules, ◌+◌}
+use Rattle.std.proofs.iter.runs.Sources.{ranges}
+use Rattle.rules.specs.Tuning.{live_count, place_reads, table_reads}
+use Rattle.state.proofs.Reading.{every_answer}
 use Rattle.state.proofs.table_reads.Goals as goal
 
-last-same : {h k : Holding} → h ≡ k → h.live.last ≡ k.live.last
-last-same e = ap (λ (x : Holding). x.live.last) e
-
-pub loop-n-init : goal.loop-n-init
-unfolding live_count every
-loop-n-init c = (refl, omega arith)
-
-pub returns-then-not-place_reads : goal.returns-then-not-place_reads
-unfolding live_count every
-returns-then-not-place_reads c =
-    let a = c.args in
-    reads-fail a.s a.store.now a.t c.loop-n.n
-    (omega (arith, last-same c.holding_of-h.ensures, c.loop-n-test.true))
-    (sym c.place_reads.ensures ∙ c.if-not-place_reads.true)
-
-pub loop-n-preserved : goal.loop-n-preserved
-unfolding live_count every
-loop-n-preserved c =
-    (every_more c.loop-n.n _ c.loop-n.invariant.0 (sym c.place_reads.ensures ∙ c.if-not-place_reads.false), omega arith)
-
 pub returns : goal.returns
-unfolding live_count every
+unfolding live_count table_reads
 returns c =
     let a = c.args in
-    reads_all a.s a.store.now a.t c.loop-n.n
-    (omega (arith, last-same c.holding_of-h.ensures, c.loop-n-test.false, c.loop-n.invariant.1)) c.loop-n.invariant.0
+    let reads = place_reads a.s a.store.now a.t in
+    rw (← c.holding_of.ensures)
+    (every_answer (c.holding_of.result.live.last + 1) reads c.all.result (λ e xs k i lt. search (rules, ranges)) (λ e. search (rules, ranges)))

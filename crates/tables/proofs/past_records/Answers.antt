@@ -4,10 +4,12 @@ use Prim.Native.Nat.{ℕ}
 use mathlib.Core.{Path.◌≡◌, Path.sym, Path.subst, List.List}
 use Rattle.rules.specs.{Bytes.from, Layout.records, declared.Table.Table}
 use Rattle.rules.specs.declared.Table.TheVariants as table
-use Rattle.fields.specs.{Place.Stands, Outline.layout_of, declared.Skip.Skip}
+use Rattle.std.specs.Prelude.{Result}
+use Rattle.rules.specs.declared.Refusal.{Refusal}
+use Rattle.fields.specs.{Place.Stands, Outline.layout_of}
 use Rattle.tables.proofs.past_records.Goals as goal
 
-module _ (b : List ℕ) (r : Skip) (included count first at : ℕ) where
+module _ (b : List ℕ) (r : Result ℕ Refusal) (included count first at : ℕ) where
   abbrev Past : Table → Type 0
   Past t = Stands b r (records (layout_of t included) count first (from b at))
 

@@ -1,4 +1,5 @@
 -- At both loops each number's entry, or else the one from here on, is the entry of the first match of all.
+use Prim.Native.Nat.{◌+◌}
 use native.Mathlib.{Omega.arith, Nat.sub-zero}
 use mathlib.Core.Path.{refl, ◌∙◌}
 use Rattle.fields.proofs.Laws.{at-got, at-no}
@@ -16,8 +17,8 @@ loop-k-init c =
       refl,
       (λ x. rw sub-zero (enter c.args.s c.args.store.now c.args.t (c.loop-i.invariant.1 x) c.requires.live
           (one_of _ _ _ e c.loop-i-test.true) _ _ _ c.live_bytes-b.ensures
-          c.outline_of-walk.ensures (c.place_of-start.ensures ∙ live-place _ _ _ e))),
-      omega (arith, c.struct_known-in-loop-i-1.given),
+          c.outline_in-walk.ensures (c.place_of-start.ensures ∙ live-place _ _ _ e))),
+      omega arith,
     )
 
 pub past_record-requires : goal.past_record-requires
@@ -29,11 +30,11 @@ list_one-takes-requires c =
 
 pub loop-k-preserved : goal.loop-k-preserved
 loop-k-preserved c =
-    let g = (at-got _ _ _ c.past_record.ensures _ c.in-At.is).1 in
+    let g = (at-got _ _ _ c.past_record.ensures _ c.in-Ok.is).1 in
     let e = c.list_one-takes.ensures in (
       e.marked.long ∙ c.loop-k.invariant.0,
       (λ x. list_on _ _ _ _ (c.loop-k.invariant.1 x) (omega (arith, c.loop-k-test.true)) g e refl),
-      omega (arith, c.loop-k.invariant.2),
+      omega arith,
     )
 
 pub loop-i-preserved : goal.loop-i-preserved
@@ -46,18 +47,13 @@ loop-i-preserved c =
       ],
     )
 
-pub returns : goal.returns
-returns c = record {
-  lists = lists _ _ _ _ c.loop-i.i (behind-all _ _ _ c.holding_of-h.ensures c.loop-i-test.false) c.loop-i.invariant.1;
-  entries_len_unchanged = c.loop-i.invariant.0;
-}
+pub returns-2-clause-lists : goal.returns-2-clause-lists
+returns-2-clause-lists c =
+    lists _ _ _ _ (c.loop-i.i + 1) (behind-all _ _ _ c.holding_of-h.ensures (omega arith)) (λ x. elim c.loop-k-test.branch [
+      | else-loop-k-test w ↦ leave _ _ _ (c.loop-k.invariant.1 x) (omega arith)
+      | then-loop-k-test+in_default w ↦ absurd (never _ _ _ _ (c.loop-k.invariant.1 x).ahead (omega arith) (at-no _ _ _ w.past_record.ensures _ w.in_default.is))
+    ])
 
 pub overflow_add-start : goal.overflow_add-start
 overflow_add-start c =
     omega (arith, small _ _ _ _ (c.loop-k.invariant.1 0).ahead (omega (arith, c.loop-k-test.true)))
-
-pub overflow_add-index : goal.overflow_add-index
-overflow_add-index c = omega (arith, c.loop-k.invariant.2)
-
-pub shape_of-entries : goal.shape_of-entries
-shape_of-entries c = c.loop-i.invariant.0

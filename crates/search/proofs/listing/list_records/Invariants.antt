@@ -10,12 +10,6 @@ invariant-loop-k l =
     × ((x : ℕ) → Within l.s l.store l.t l.entries l.walk.included l.start l.i (l.k-end - l.k) l.index l.b l.at x)
     × (l.index ≤ 65535 + 255 * l.k)
 
-abbrev pub decreases-loop-k : goal.decreases-loop-k
-decreases-loop-k l = l.k-end - l.k
-
 abbrev pub invariant-loop-i : goal.invariant-loop-i
 invariant-loop-i l = (length l.entries ≡ length l.initial.entries)
     × ((x : ℕ) → Before l.s l.store l.t l.entries l.i x)
-
-abbrev pub decreases-loop-i : goal.decreases-loop-i
-decreases-loop-i l = l.sections - l.i

@@ -2,7 +2,7 @@
 use native.Mathlib.Omega.{arith}
 use mathlib.Core.Path.{sym, ap, ◌∙◌}
 use Rattle.rules.specs.Bytes.{from}
-use Rattle.section.specs.Closes.{closed_as}
+use Rattle.rules.specs.Section.{read}
 use Rattle.section.proofs.Lists.{close-lone}
 use Rattle.section.proofs.closing.close.Goals as goal
 
@@ -10,7 +10,7 @@ pub returns-then-is_lone_revision : goal.returns-then-is_lone_revision
 unfolding from
 returns-then-is_lone_revision c =
     let a = c.args in
-    c.revised.ensures ∙ ap closed_as (sym (close-lone a.b.now a.start
+    c.revised.ensures ∙ ap read (sym (close-lone a.b.now a.start
     (c.is_lone_revision.ensures c.if-is_lone_revision.true)))
 
 pub overflow_add-start : goal.overflow_add-start

@@ -1,41 +1,43 @@
--- Each test names a table or none.
-use borrow.Author.Tests.{eq-eqb, ne_eqb}
+-- Each row names a table, and no other row does.
+use borrow.Author.Tests.{ne_eqb}
 use Rattle.section.specs.Reads.{named_as}
 use Rattle.section.proofs.Headers.{named-low, named-names, named-high, named_none}
 use Rattle.section.proofs.header.table_named.Goals as goal
 
-pub returns-then-medium-eq1 : goal.returns-then-medium-eq1
+pub returns-in-194-eq1 : goal.returns-in-194-eq1
 unfolding named_as
-returns-then-medium-eq1 c = rw (named-low _ _ c.if-number-eq194.true, eq-eqb _ _ c.if-medium-eq1.true)
+returns-in-194-eq1 c = rw (named-low _ _ c.in-194-eq1.is-0, c.in-194-eq1.is-1)
 
-pub returns-then-medium-eq2 : goal.returns-then-medium-eq2
+pub returns-in-194-eq2 : goal.returns-in-194-eq2
 unfolding named_as
-returns-then-medium-eq2 c = rw (named-low _ _ c.if-number-eq194.true, ne_eqb _ _ c.if-medium-eq1.false, eq-eqb _ _ c.if-medium-eq2.true)
+returns-in-194-eq2 c = rw (named-low _ _ c.in-194-eq2.is-0, c.in-194-eq2.is-1)
 
-pub returns-then-number-eq194 : goal.returns-then-number-eq194
+pub returns-in-195-eq6 : goal.returns-in-195-eq6
 unfolding named_as
-returns-then-number-eq194 c = rw (named-low _ _ c.if-number-eq194.true, ne_eqb _ _ c.if-medium-eq1.false, ne_eqb _ _ c.if-medium-eq2.false)
+returns-in-195-eq6 c = rw (named-names _ _ c.in-195-eq6.is-0, c.in-195-eq6.is-1)
 
-pub returns-then-medium-eq6 : goal.returns-then-medium-eq6
+pub returns-in-196-eq0 : goal.returns-in-196-eq0
 unfolding named_as
-returns-then-medium-eq6 c = rw (named-names _ _ c.if-number-eq195.true, eq-eqb _ _ c.if-medium-eq6.true)
+returns-in-196-eq0 c = rw (named-high _ _ c.in-196-eq0.is-0, c.in-196-eq0.is-1)
 
-pub returns-then-number-eq195 : goal.returns-then-number-eq195
+pub returns-in-196-eq1 : goal.returns-in-196-eq1
 unfolding named_as
-returns-then-number-eq195 c = rw (named-names _ _ c.if-number-eq195.true, ne_eqb _ _ c.if-medium-eq6.false)
+returns-in-196-eq1 c = rw (named-high _ _ c.in-196-eq1.is-0, c.in-196-eq1.is-1)
 
-pub returns-then-number-ne196 : goal.returns-then-number-ne196
+pub returns-in_default : goal.returns-in_default
 unfolding named_as
-returns-then-number-ne196 c = rw (named_none _ _ c.if-number-eq194.false c.if-number-eq195.false c.if-number-ne196.true)
+returns-in_default c =
+    let no = c.in_default.is-1 in rw (named-low _ _ c.in_default.is-0, ne_eqb _ _ no.0.1, ne_eqb _ _ no.1)
 
-pub returns-then-medium-eq0 : goal.returns-then-medium-eq0
+pub returns-in_default-2 : goal.returns-in_default-2
 unfolding named_as
-returns-then-medium-eq0 c = rw (named-high _ _ c.if-number-ne196.false, eq-eqb _ _ c.if-medium-eq0.true)
+returns-in_default-2 c = rw (named-names _ _ c.in_default.is-0, ne_eqb _ _ c.in_default.is-1.1)
 
-pub returns-then-medium-eq1-2 : goal.returns-then-medium-eq1-2
+pub returns-in_default-3 : goal.returns-in_default-3
 unfolding named_as
-returns-then-medium-eq1-2 c = rw (named-high _ _ c.if-number-ne196.false, ne_eqb _ _ c.if-medium-eq0.false, eq-eqb _ _ c.if-medium-eq1-2.true)
+returns-in_default-3 c =
+    let no = c.in_default.is-1 in rw (named-high _ _ c.in_default.is-0, ne_eqb _ _ no.0.1, ne_eqb _ _ no.1)
 
-pub returns : goal.returns
+pub returns-in_default-4 : goal.returns-in_default-4
 unfolding named_as
-returns c = rw (named-high _ _ c.if-number-ne196.false, ne_eqb _ _ c.if-medium-eq0.false, ne_eqb _ _ c.if-medium-eq1-2.false)
+returns-in_default-4 c = let no = c.in_default.is-0 in rw (named_none _ _ no.0.0.1 no.0.1 no.1)

@@ -1,9 +1,0 @@
--- What is read fits behind what there is. The measure is the room that is left.
-use Rattle.std.proofs.Common.{◌-◌, ◌≤◌, length}
-use Rattle.lineup.proofs.read_full.Given as goal
-
-abbrev pub invariant-loop-done : goal.invariant-loop-done
-invariant-loop-done g l = l.done ≤ length l.buffer
-
-abbrev pub decreases-loop-done : goal.decreases-loop-done
-decreases-loop-done g l = length l.buffer - l.done
