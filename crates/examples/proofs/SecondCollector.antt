@@ -74,7 +74,7 @@ second =
       revision = λ c. c.revision;
       aside = other_page;
       Aside = λ s c. other_page s c ≡ true;
-      word = λ s c. OtherMap;
+      word = λ s c. right OtherMap;
     }
 
 -- ---- its laws
@@ -128,6 +128,52 @@ second-lawful =
 pub second-gathers : Gathers second
 second-gathers = gathers second second-lawful
 
+-- ---- the same, but that it sets a section of another map aside by a refusal: all of it holds of that one too
+
+abbrev pub refusing : Collector OneTable OneState Page
+refusing =
+    record {
+      index = second.index;
+      tables = second.tables;
+      size = second.size;
+      holding = second.holding;
+      with = second.with;
+      limit = second.limit;
+      formed = second.formed;
+      Formed = second.Formed;
+      read = second.read;
+      table = second.table;
+      revision = second.revision;
+      aside = second.aside;
+      Aside = second.Aside;
+      word = λ s c. wrong 12;
+    }
+
+refusing-lawful : Lawful refusing
+refusing-lawful =
+    let law = second-lawful in
+    record {
+      index_lt = law.index_lt;
+      same_index = law.same_index;
+      with_same = law.with_same;
+      with_own = law.with_own;
+      with_other = law.with_other;
+      with_limit = law.with_limit;
+      with_read = law.with_read;
+      with_aside = law.with_aside;
+      formed_says = law.formed_says;
+      formed_so = law.formed_so;
+      table_formed = law.table_formed;
+      with_formed = law.with_formed;
+      reads_right = law.reads_right;
+      aside_says = law.aside_says;
+      aside_so = law.aside_so;
+      word_out = λ s c. refl;
+    }
+
+pub refusing-gathers : Gathers refusing
+refusing-gathers = gathers refusing refusing-lawful
+
 pub second-any-order : (b : BoxOf OneState) (v last n : ℕ) (x : List ℕ) (xs : List (List ℕ)) → Promised second b only v last (x ∷ xs)
     → Wanted second b.state only v last n x
     → NoneOther second b.state only v last xs → (run second b (x ∷ xs)).state.held.live ≡ record { present = 1; version = v; last = last }
@@ -165,7 +211,9 @@ pub record SecondComputed : Type 0 where
       section_at second b.store (live_at second b.state only 0) ∷ section_at second b.store (live_at second b.state only 1) ∷ [])
       ≡ hex "01 00 05 07 05 00 01 CC" ∷ hex "01 00 05 07 05 01 01 EE" ∷ []
   pub short : answers second (fresh_second 49151) (hex "01 00 04 07 06 00 00" ∷ []) ≡ wrong 1 ∷ []
+  -- set aside by a refusal
+  pub aside_refused : answers refusing (fresh_second 49152) (hex "01 00 04 07 05 05 05" ∷ hex "01 00 04 08 05 00 05" ∷ []) ≡ right (Stored 5) ∷ wrong 12 ∷ []
 
 pub second-computed : SecondComputed
 unfolding computed page_fits page read_page other_page
-second-computed = record { places = refl; offers = refl; first_since = refl; short = refl }
+second-computed = record { places = refl; offers = refl; first_since = refl; short = refl; aside_refused = refl }

@@ -21,7 +21,8 @@ use Rattle.rules.specs.Refusals.{OrRefused, wrong, right, number, by_number}
 use Rattle.rules.specs.declared.Refusal.{Refusal}
 use Rattle.search.specs.Found.{channel_found, label_named, Brief}
 use Rattle.tuner.specs.Checks.{checks, checked_as}
-use Rattle.tuner.proofs.Laws.{Check, passed, high, other, Late, late, not-late}
+use Rattle.tuner.proofs.Order.{Check}
+use Rattle.tuner.proofs.Laws.{passed, high, other, Late, late, not-late}
 use Rattle.label.specs.Labels.{label_checks}
 
 -- ---- the checks are those of tuning, and then the names
@@ -163,7 +164,7 @@ module _ (s : State) (store : List ℕ) (n : ℕ) {r : Refusal} (e : wrong (numb
   unfolding label_checks labelled
   refused_high h f =
       high wants wanted not-wanted (behind s store n) (number r) (leb (store_size (limit_of s)) (length store)) (well_formed s) (leb n 4095)
-      (all_live s) (all_read s store && names_read s store) e (late h) (lt-leb n 4095 f)
+      (all_live s) (all_read s store && names_read s store) e (omega (arith, late h)) (lt-leb n 4095 f)
 
   pub refused_as : (r ≡ Refusal.NotLive → n ≤ 4095) → (r ≡ Refusal.Unreadable → n ≤ 4095) → wrong (number r) ≡ labelled s store n
   unfolding label_checks labelled

@@ -30,7 +30,7 @@ pub record Collector (T S C : Type 0) : Type 1 where
   -- step 1: whether a section that reads right is set aside, by test and in words, and the word that is answered then
   pub aside : S → C → Bool
   pub Aside : S → C → Type 0
-  pub word : S → C → Answer
+  pub word : S → C → OrRefused Answer
 
 -- a state and the store lent with it
 pub record BoxOf (S : Type 0) : Type 0 where
@@ -80,7 +80,7 @@ module _ {T S C : Type 0} (k : Collector T S C) where
   unfoldable pub offered_as : S → OrRefused C → Outcome S
   offered_as s (wrong n) = record { answer = wrong n; state = s }
   offered_as s (right c) =
-      cond (k.aside s c) (record { answer = right (k.word s c); state = s })
+      cond (k.aside s c) (record { answer = k.word s c; state = s })
       (stepped s (k.table c) (step_of (k.limit s) (k.holding s (k.table c)) (k.revision c)))
 
   -- refusals 1 and 2 come first

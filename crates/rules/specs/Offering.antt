@@ -146,7 +146,7 @@ module _ {T S C : Type 0} (co : Collector T S C) where
     -- 3 to 11: the section does not read right
     unread : {n : ℕ} → Checked b → read_for b.state section ≡ wrong n → Offering b section (wrong n)
     -- step 1: set aside by a word
-    set_aside : {c : C} → Checked b → read_for b.state section ≡ right c → Aside b.state c → Offering b section (right (word b.state c))
+    set_aside : {c : C} → Checked b → read_for b.state section ≡ right c → Aside b.state c → Offering b section (word b.state c)
     -- step 2: last not below the limit: refusal 12
     high_last : {c : C} → Passed b.state b.store section c → limit_of b.state ≤ (revision_of c).last → Offering b section (wrong 12)
     -- step 3: refusal 13

@@ -150,6 +150,10 @@ module _ (s : State) (store : List ℕ) (t : Table) (test : Numbered (RecordOf t
 
   module _ {others : List (Standing (RecordOf t))} {included start left index : ℕ} {b : List ℕ} {at later : ℕ}
       (w : Inside others included start left index b at later) where
+    -- a layout that doesn't ask for the included bit is the same with any
+    pub any-bit : layout_of t included ≡ layout_of t 0 → Inside others 0 start left index b at later
+    any-bit e = record { low = w.low; rs = w.rs; rest = w.rest; reads = rw (← e) w.reads; is = rw (← e) w.is }
+
     -- and out of it, where no record is left
     pub go-out : left ≤ 0 → entry_number (first goes others) ≡ later
     unfolding standing

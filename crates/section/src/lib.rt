@@ -19,8 +19,11 @@ mod closing; // the closing list
 fn is_fitting(s: &[u8]) -> bool
     ensures { result ≡ fitting s.now }
 {
+    if s.len() < 8 {
+        return false;
+    }
     let l = fields::length_of(s);
-    8 <= s.len() && s.len() == 3 + l as usize && l <= 1021
+    s.len() == 3 + l as usize && l <= 1021
 }
 
 // 0xC2 to 0xC4: else 4.

@@ -95,14 +95,17 @@ pub fn feed(t: Tally, store: &mut [u8], piece: &[u8]) -> Fed
     Fed { tally, used }
 }
 
-// Moves the bytes from `used` to `have` to the front, and answers how many they are.
+// Moves the bytes from `used` to `have` to the front, and answers how many they are. (One by one, as `fields::put`, and no `copy_within`.)
 fn keep(buffer: &mut [u8], used: usize, have: usize) -> usize
     requires { (used ≤ have) × (have ≤ length buffer.old) }
     ensures value { result ≡ have - used }
     ensures buffer_after { buffer.new ≡ put buffer.old 0 (take (have - used) (from buffer.old used)) }
 {
-    buffer.copy_within(used..have, 0);
-    have - used
+    let n = have - used;
+    for i in 0..n {
+        buffer[i] = buffer[used + i];
+    }
+    n
 }
 
 // A piece of `got` bytes was read into the buffer, behind what was kept there: offers the whole sections of both together, and

@@ -10,12 +10,13 @@ use std::io::Read;
 // The longest section that a length of 12 bits can announce.
 const LONGEST: usize = 4098;
 
-// What can't be written is left: the next line is tried all the same.
+// What can't be written is left: the next line is tried all the same. (A line with no number is written as it stands: `println!` would lay it out anew,
+// byte by byte, at each section.)
 fn write_answer(rt: &impl Print, answer: Result<Answer, Refusal>) {
     let _ = match answer {
         Err(refusal) => println!(rt; "answer=refused number={}", refusal.number()),
-        Ok(Answer::OtherMap) => println!(rt; "answer=other-map"),
-        Ok(Answer::Repeat) => println!(rt; "answer=repeat"),
+        Ok(Answer::OtherMap) => rt.write_all(b"answer=other-map\n"),
+        Ok(Answer::Repeat) => rt.write_all(b"answer=repeat\n"),
         Ok(Answer::Stored(missing)) => println!(rt; "answer=stored missing={missing}"),
         Ok(Answer::Live(version)) => println!(rt; "answer=live version={version}"),
     };

@@ -23,6 +23,8 @@ use Rattle.search.specs.Entries.{Live, records_of, test_of, entry_of, record_nam
 use Rattle.search.specs.Found.{carrier_found, mode_found, channel_found}
 use Rattle.search.proofs.Named.{entry-names}
 use Rattle.tuner.specs.Checks.{checks, checked_as}
+use Rattle.tuner.proofs.Order.{Check, Ask}
+use Rattle.tuner.proofs.Order as order
 
 -- ---- what the checks leave
 
@@ -131,32 +133,39 @@ module _ (s : State) (store : List ℕ) (number : ℕ) (e : checks s store ≡ 0
 
 -- ---- a refusal of the checks
 
--- `checks`, told by what it tests
-abbrev pub Check : (roomy good live reads : Bool) → ℕ
-Check roomy good live reads = cond roomy (cond good (cond live (cond reads 0 16) 15) 2) 1
+-- the number of a refusal is that of the checks, and not 0, which refuses nothing
+refuses : (k : ℕ) (roomy good live reads : Bool) → wrong k ≡ checked_as (Check roomy good live reads)
+    → (k ≡ Check roomy good live reads) × (k ≡ 0 → ⊥)
+refuses k false good live reads e = let z : k ≡ 1 = cc in (z, λ q. omega (arith, z, q))
+refuses k true false live reads e = let z : k ≡ 2 = cc in (z, λ q. omega (arith, z, q))
+refuses k true true false reads e = let z : k ≡ 15 = cc in (z, λ q. omega (arith, z, q))
+refuses k true true true false e = let z : k ≡ 16 = cc in (z, λ q. omega (arith, z, q))
+refuses k true true true true e = let z : ◌≡◌ {A = ℕ} 0 1 = cc in absurd (omega arith)
 
--- where a check is not passed: 14 has its place between 2 and 15. Of every question that asks so, tuning or another
+-- where a check is not passed, of every question that refuses by a number, tuning or another
 module _ {A : Type 0} (ask : Bool → ℕ → OrRefused A → OrRefused A) (yes : (n : ℕ) (t : OrRefused A) → ask true n t ≡ t)
     (no : (n : ℕ) (t : OrRefused A) → ask false n t ≡ wrong n) (t : OrRefused A) (k : ℕ) where
-  abbrev Ask : (roomy good low live reads : Bool) → OrRefused A
-  Ask roomy good low live reads = ask roomy 1 (ask good 2 (ask low 14 (ask live 15 (ask reads 16 t))))
+  abbrev Asked : (roomy good low live reads : Bool) → OrRefused A
+  Asked = Ask wrong ask yes no t k
 
-  pub high : (roomy good low live reads : Bool) → wrong k ≡ checked_as (Check roomy good live reads) → 14 < k → low ≡ false
-      → wrong 14 ≡ Ask roomy good low live reads
-  high false good low live reads e h f = let z : k ≡ 1 = cc in absurd (omega arith)
-  high true false low live reads e h f = let z : k ≡ 2 = cc in absurd (omega arith)
-  high true true true live reads e h f = absurd (differ f)
-  high true true false live reads e h f = sym (yes 1 _ ∙ yes 2 _ ∙ no 14 _)
+  pub high : (roomy good low live reads : Bool) → wrong k ≡ checked_as (Check roomy good live reads) → 14 ≤ k → low ≡ false
+      → wrong 14 ≡ Asked roomy good low live reads
+  high roomy good low live reads e h f =
+      let r = refuses k roomy good live reads e in order.high wrong ask yes no t k roomy good low live reads r.0 h f
 
   pub other : (roomy good low live reads : Bool) → wrong k ≡ checked_as (Check roomy good live reads)
-      → (low ≡ false → (k ≡ 15) ⊎ (k ≡ 16) → ⊥) → wrong k ≡ Ask roomy good low live reads
-  other false good low live reads e f = let z : k ≡ 1 = cc in ap wrong z ∙ sym (no 1 _)
-  other true false low live reads e f = let z : k ≡ 2 = cc in ap wrong z ∙ sym (yes 1 _ ∙ no 2 _)
-  other true true false false reads e f = let z : k ≡ 15 = cc in absurd (f refl (inl z))
-  other true true false true false e f = let z : k ≡ 16 = cc in absurd (f refl (inr z))
-  other true true true false reads e f = let z : k ≡ 15 = cc in ap wrong z ∙ sym (yes 1 _ ∙ yes 2 _ ∙ yes 14 _ ∙ no 15 _)
-  other true true true true false e f = let z : k ≡ 16 = cc in ap wrong z ∙ sym (yes 1 _ ∙ yes 2 _ ∙ yes 14 _ ∙ yes 15 _ ∙ no 16 _)
-  other true true low true true e f = let z : ◌≡◌ {A = ℕ} 0 1 = cc in absurd (omega arith)
+      → (low ≡ false → (k ≡ 15) ⊎ (k ≡ 16) → ⊥) → wrong k ≡ Asked roomy good low live reads
+  other false good low live reads e f =
+      let r = refuses k false good live reads e in order.early wrong ask yes no t k false good low live reads r.0 r.1 (omega (arith, r.0))
+  other true false low live reads e f =
+      let r = refuses k true false live reads e in order.early wrong ask yes no t k true false low live reads r.0 r.1 (omega (arith, r.0))
+  other true true false false reads e f = absurd (f refl (inl (refuses k true true false reads e).0))
+  other true true false true false e f = absurd (f refl (inr (refuses k true true true false e).0))
+  other true true true false reads e f =
+      let r = refuses k true true false reads e in order.late wrong ask yes no t k true true true false reads r.0 r.1 (omega (arith, r.0)) refl
+  other true true true true false e f =
+      let r = refuses k true true true false e in order.late wrong ask yes no t k true true true true false r.0 r.1 (omega (arith, r.0)) refl
+  other true true low true true e f = absurd ((refuses k true true true true e).1 (refuses k true true true true e).0)
 
 -- 15 and 16, as the code names them
 abbrev pub Late : Refusal → Type 0
@@ -184,7 +193,7 @@ unfolding needs
 not-needed n t = refl
 
 module _ (s : State) (store : List ℕ) (number k : ℕ) (e : wrong k ≡ checked_as (checks s store)) where
-  pub refused-high : 14 < k → 4095 < number → wrong 14 ≡ tune s store number
+  pub refused-high : 14 ≤ k → 4095 < number → wrong 14 ≡ tune s store number
   unfolding checks tune
   refused-high h f =
       high needs needed not-needed (look_up (plant s store) number) k
@@ -203,7 +212,7 @@ module _ (s : State) (store : List ℕ) (number k : ℕ) (e : wrong k ≡ checke
 -- by name
 module _ (s : State) (store : List ℕ) (n : ℕ) {r : Refusal} (e : wrong (number r) ≡ checked_as (checks s store)) where
   pub refused_high : Late r → 4095 < n → wrong 14 ≡ tune s store n
-  refused_high h f = refused-high s store n (number r) e (late h) f
+  refused_high h f = refused-high s store n (number r) e (omega (arith, late h)) f
 
   pub refused_as : (r ≡ Refusal.NotLive → n ≤ 4095) → (r ≡ Refusal.Unreadable → n ≤ 4095) → wrong (number r) ≡ tune s store n
   refused_as f g = ruled s store n (number r) e (not-late n r f g)
