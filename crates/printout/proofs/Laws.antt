@@ -148,7 +148,7 @@ module _ (s : State) (store : List ℕ) (n : ℕ) (e : wrong n ≡ checked_as (c
   none-tuned number = go (ltb 14 n) refl (ltb 4095 number) refl
     where
       go : (late : Bool) → ltb 14 n ≡ late → (high : Bool) → ltb 4095 number ≡ high → channel_line number (tune s store number) ≡ []
-      go true q true p = refused-line number _ 14 (refused-high s store number n e (ltb-true 14 n q) (ltb-true 4095 number p))
+      go true q true p = refused-line number _ 14 (refused-high s store number n e (omega (arith, ltb-true 14 n q)) (ltb-true 4095 number p))
       go false q high p = refused-line number _ n (refused-as s store number n e (λ f. ltb-false 14 n q))
       go true q false p = refused-line number _ n (refused-as s store number n e (λ f. absurd (omega (arith, f, ltb-false 4095 number p))))
 
