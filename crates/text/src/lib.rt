@@ -76,8 +76,8 @@ fn put_hex(out: &mut [u8], at: usize, bytes: &[u8]) -> usize
     ensures { (result ≤ at + length bytes.now * 2) × Wrote out.old at (hexadecimal bytes.now) out.new result }
 {
     let mut next = at;
-    for &b in bytes {
-        next = put_pair(out, next, b);
+    for i in 0..bytes.len() {
+        next = put_pair(out, next, bytes[i]);
     }
     next
 }
